@@ -1,0 +1,9 @@
+pub mod Numbers
+pub mod Algebra
+pub mod Steps
+pub mod Inverses
+pub mod Lists
+pub mod Cauchy
+pub mod Parts
+pub mod Choices
+pub mod Bytes

@@ -1,0 +1,5 @@
+pub mod Fields
+pub mod Sums
+pub mod Matrices
+pub mod Elimination
+pub mod Codes

@@ -1,0 +1,5 @@
+use Rattle.field.proofs.Elements.{same-value}
+use Rattle.field.proofs.field256.Gf256Field.mul.Needs as need
+
+pub returns : need.returns
+returns c = same-value _ _ (c .multiply .ensures .value)

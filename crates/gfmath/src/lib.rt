@@ -1,0 +1,1 @@
+// The field of 256 elements as mathematics: definitions in specs/, their laws in proofs/, and no code.
