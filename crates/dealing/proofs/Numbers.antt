@@ -2,11 +2,11 @@
 use Prim.Native.Nat.{ℕ, _+_, _-_, _*_, _/_, _%_, _≤_, _<_, min, max}
 use mathlib.Core.Path.{_≡_, refl, sym, ap, _∙_}
 use mathlib.Core.Logic.{_⊎_, inl, inr, ⊎-elim}
+use lib.Dec.{eqb, ltb}
 use native.Mathlib.Omega.{arith}
-use native.Mathlib.Nat.{div-eq-of-lt-le}
 use Rattle.std.proofs.shelf.Bits.{mul-le, mul-lt, div-below, le-div, mod-below, div-mul-add, mod-mul-add, div-add-mod'}
-use Rattle.std.proofs.shelf.Tests.{cases-lt, cases-order}
-use Rattle.dealing.specs.Places.{cellOf, rowOf, shardOf, shardPlace, byteOf, rowBytes, rowsOf, cellLen, dataLen}
+use Rattle.std.proofs.shelf.Tests.{cases-lt, cases-eq, cases-order, eq-eqb, ne-eqb, ltb-true, lt-ltb, le-ltb, cond-true, cond-false, cond-both}
+use Rattle.dealing.specs.Places.{cellOf, rowOf, shardOf, shardPlace, byteOf, rowBytes, rowsOf, cellLen, likeShard, dataLen, shardLen, ownLen, rowPlace, partLen, partStart}
 use Rattle.dealing.specs.Laws.{Least}
 
 -- a row's bytes are at least one
@@ -50,13 +50,12 @@ module _ (d s n : ℕ) (dp : 0 < d) (sp : 0 < s) where
   -- how many rows: the whole ones, and one more where one is begun
   pub rows-whole : n % (d * s) ≡ 0 → rowsOf d s n ≡ n / (d * s)
   rows-whole h =
-      let r = row-pos d s dp sp in
-      div-eq-of-lt-le (d * s) (omega (arith, whole-rows)) (omega (arith, whole-rows, r))
+      let none = cond-true {A = ℕ} (eqb (n % (d * s)) 0) 0 1 (eq-eqb (n % (d * s)) 0 h) in omega (arith, none)
 
   pub rows-begun : 0 < n % (d * s) → rowsOf d s n ≡ n / (d * s) + 1
   rows-begun h =
-      let b = begun-row in
-      div-eq-of-lt-le (d * s) (omega (arith, whole-rows, b)) (omega (arith, whole-rows, b))
+      let one = cond-false {A = ℕ} (eqb (n % (d * s)) 0) 0 1 (ne-eqb (n % (d * s)) 0 (λ z. omega arith)) in
+      omega (arith, one)
 
   pub rows-least : Least d s n (rowsOf d s n)
   rows-least =
@@ -84,9 +83,57 @@ module _ (d s n : ℕ) (dp : 0 < d) (sp : 0 < s) where
       (λ (g : n / (d * s) < k). omega (arith, cellLen-past k i g, row-after s (n / (d * s)) k g)) o)
       (cases-order k (n / (d * s)))
 
-  -- a data shard is no longer than the block
+  -- a cell for each whole row, and the row that is begun, are no more than the block
+  pub whole-le : n / (d * s) * s + n % (d * s) ≤ n
+  whole-le = omega (arith, whole-rows, mul-le (n / (d * s) * s) 1 (n / (d * s) * s) d (omega arith) dp)
+
+  -- so a data shard is no longer than the block
   pub dataLen-le : (i : ℕ) → dataLen d s n i ≤ n
-  dataLen-le i = omega (arith, whole-rows, mul-le (n / (d * s) * s) 1 (n / (d * s) * s) d (omega arith) dp)
+  dataLen-le i = omega (arith, whole-le)
+
+-- what shard i is as long as is a data shard, and a data shard is itself
+pub likeShard-lt : (d i : ℕ) → 0 < d → likeShard d i < d
+likeShard-lt d i dp = cond-both (ltb i d) i 0 (λ x. x < d) (λ e. ltb-true i d e) (λ e. dp)
+
+pub likeShard-data : (d i : ℕ) → i < d → likeShard d i ≡ i
+likeShard-data d i h = cond-true (ltb i d) i 0 (lt-ltb i d h)
+
+-- a shard that there is
+pub shardLen-is : (d p s n i : ℕ) → i < d + p → shardLen d p s n i ≡ dataLen d s n (likeShard d i)
+shardLen-is d p s n i h = cond-true (ltb i (d + p)) (dataLen d s n (likeShard d i)) 0 (lt-ltb i (d + p) h)
+
+pub ownLen-is : (d p s n i k : ℕ) → i < d + p → ownLen d p s n i k ≡ cellLen s n (k * d + likeShard d i)
+ownLen-is d p s n i k h = cond-true (ltb i (d + p)) (cellLen s n (k * d + likeShard d i)) 0 (lt-ltb i (d + p) h)
+
+-- and one that there is not
+pub shardLen-none : (d p s n i : ℕ) → d + p ≤ i → shardLen d p s n i ≡ 0
+shardLen-none d p s n i h = cond-false (ltb i (d + p)) (dataLen d s n (likeShard d i)) 0 (le-ltb i (d + p) h)
+
+pub ownLen-none : (d p s n i k : ℕ) → d + p ≤ i → ownLen d p s n i k ≡ 0
+ownLen-none d p s n i k h = cond-false (ltb i (d + p)) (cellLen s n (k * d + likeShard d i)) 0 (le-ltb i (d + p) h)
+
+-- a cell has of its own what its shard has from the row's first place, at most s bytes
+pub ownLen-of-shard : (d p s n i k : ℕ) → 0 < d → 0 < s → ownLen d p s n i k ≡ min s (shardLen d p s n i - rowPlace s k)
+ownLen-of-shard d p s n i k dp sp =
+    ⊎-elim
+    (λ (h : i < d + p).
+    ownLen-is d p s n i k h ∙ cellLen-of-shard d s n dp sp k (likeShard d i) (likeShard-lt d i dp)
+    ∙ ap (λ (m : ℕ). min s (m - k * s)) (sym (shardLen-is d p s n i h)))
+    (λ (h : d + p ≤ i).
+    ownLen-none d p s n i k h ∙ omega (arith, shardLen-none d p s n i h))
+    (cases-lt i (d + p))
+
+-- a part lies within its row
+pub part-in-row : (w k a l : ℕ) → partStart w k a l + partLen w k a l ≤ w
+part-in-row w k a l =
+    ⊎-elim
+    (λ (z : partLen w k a l ≡ 0).
+    omega (arith, cond-true (eqb (partLen w k a l) 0) 0 (a - k * w) (eq-eqb (partLen w k a l) 0 z)))
+    (λ (z : partLen w k a l ≡ 0 → ⊥).
+    let e = cond-false (eqb (partLen w k a l) 0) 0 (a - k * w) (ne-eqb (partLen w k a l) 0 z) in
+    ⊎-elim (λ (o : partLen w k a l < 1). absurd (z (omega arith))) (λ (o : 1 ≤ partLen w k a l). omega (arith, e))
+    (cases-lt (partLen w k a l) 1))
+    (cases-eq (partLen w k a l) 0)
 
 module _ (d s b : ℕ) (dp : 0 < d) (sp : 0 < s) where
   -- a byte's place in its shard is no further than its place in the block

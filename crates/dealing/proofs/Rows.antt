@@ -67,24 +67,24 @@ module _ (d s : ℕ) (block : List ℕ) where
 
 module _ (d s : ℕ) (block : List ℕ) (a l : ℕ) (inside : a + l ≤ length block) where
   -- a row's part is the stretch of the block from the range's first byte in the row
-  pub part-is : (k x : ℕ) → (0 < partLen d s k a l → a + x ≡ max a (k * (d * s))) → rowPart d s block a l k ≡ take (partLen d s k a l) (drop x (drop a block))
+  pub part-is : (k x : ℕ) → (0 < partLen (d * s) k a l → a + x ≡ max a (k * (d * s))) → rowPart d s block a l k ≡ take (partLen (d * s) k a l) (drop x (drop a block))
   part-is k x e =
       ⊎-elim
-      (λ (z : partLen d s k a l < 1).
-      let none : partLen d s k a l ≡ 0 = omega arith in
-      ap (λ (n : ℕ). take n (drop (partStart d s k a l) (rowCells d s block k))) none
+      (λ (z : partLen (d * s) k a l < 1).
+      let none : partLen (d * s) k a l ≡ 0 = omega arith in
+      ap (λ (n : ℕ). take n (drop (partStart (d * s) k a l) (rowCells d s block k))) none
       ∙ sym (ap (λ (n : ℕ). take n (drop x (drop a block))) none))
-      (λ (some : 1 ≤ partLen d s k a l).
-      let st : partStart d s k a l ≡ a - k * (d * s) =
-      cond-false (eqb (partLen d s k a l) 0) 0 (a - k * (d * s)) (ne-eqb (partLen d s k a l) 0 (λ z. omega arith)) in
+      (λ (some : 1 ≤ partLen (d * s) k a l).
+      let st : partStart (d * s) k a l ≡ a - k * (d * s) =
+      cond-false (eqb (partLen (d * s) k a l) 0) 0 (a - k * (d * s)) (ne-eqb (partLen (d * s) k a l) 0 (λ z. omega arith)) in
       let at : k * (d * s) + (a - k * (d * s)) ≡ a + x = omega (arith, e some) in
-      let fits : a - k * (d * s) + partLen d s k a l ≤ length (drop (k * (d * s)) block) = simp length-drop (omega arith) in
-      ap (λ (n : ℕ). take (partLen d s k a l) (drop n (rowCells d s block k))) st
-      ∙ ap (λ (r : List ℕ). take (partLen d s k a l) (drop (a - k * (d * s)) r)) (row-is d s block k)
-      ∙ part-padded (d * s) (a - k * (d * s)) (partLen d s k a l) (drop (k * (d * s)) block) (omega arith) fits
-      ∙ ap (λ (r : List ℕ). take (partLen d s k a l) r)
+      let fits : a - k * (d * s) + partLen (d * s) k a l ≤ length (drop (k * (d * s)) block) = simp length-drop (omega arith) in
+      ap (λ (n : ℕ). take (partLen (d * s) k a l) (drop n (rowCells d s block k))) st
+      ∙ ap (λ (r : List ℕ). take (partLen (d * s) k a l) (drop (a - k * (d * s)) r)) (row-is d s block k)
+      ∙ part-padded (d * s) (a - k * (d * s)) (partLen (d * s) k a l) (drop (k * (d * s)) block) (omega arith) fits
+      ∙ ap (λ (r : List ℕ). take (partLen (d * s) k a l) r)
       (drop-drop (a - k * (d * s)) (k * (d * s)) block ∙ ap (λ (n : ℕ). drop n block) at ∙ sym (drop-drop x a block)))
-      (cases-lt (partLen d s k a l) 1)
+      (cases-lt (partLen (d * s) k a l) 1)
 
   -- the first m rows have the range's bytes below their end
   pub parts-upTo : (m : ℕ) → joinedTo (rowPart d s block a l) m ≡ take (min (a + l) (m * (d * s)) - a) (drop a block)
@@ -94,10 +94,10 @@ module _ (d s : ℕ) (block : List ℕ) (a l : ℕ) (inside : a + l ≤ length b
       sym (ap (λ (n : ℕ). take n (drop a block)) none)
   parts-upTo (suc m) =
       let x : ℕ = min (a + l) (m * (d * s)) - a in
-      let on : min (a + l) (m * (d * s)) - a + partLen d s m a l ≡ min (a + l) (suc m * (d * s)) - a = omega arith in
+      let on : min (a + l) (m * (d * s)) - a + partLen (d * s) m a l ≡ min (a + l) (suc m * (d * s)) - a = omega arith in
       ap (λ (r : List ℕ). r ++ rowPart d s block a l m) (parts-upTo m)
       ∙ ap (λ (r : List ℕ). take x (drop a block) ++ r) (part-is m x (λ p. omega arith))
-      ∙ sym (take-add x (partLen d s m a l) (drop a block)) ∙ ap (λ (n : ℕ). take n (drop a block)) on
+      ∙ sym (take-add x (partLen (d * s) m a l) (drop a block)) ∙ ap (λ (n : ℕ). take n (drop a block)) on
 
   pub parts-are-range : 0 < d → 0 < s → PartsAreRange d s block a l
   parts-are-range dp sp =

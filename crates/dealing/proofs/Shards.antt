@@ -9,10 +9,10 @@ use native.Mathlib.Numerals.{add-one}
 use Rattle.std.proofs.shelf.Bits.{mod-below, div-add-mod'}
 use Rattle.std.proofs.shelf.Lists.{length-append, length-take, length-drop, getD-take, getD-drop, ext-getD}
 use Rattle.std.proofs.shelf.Tests.{cases-lt, cases-order}
-use Rattle.dealing.specs.Places.{cellOf, rowOf, shardOf, shardPlace, byteOf, rowsOf, cellLen, dataLen}
+use Rattle.dealing.specs.Places.{cellOf, rowOf, shardOf, shardPlace, byteOf, rowsOf, cellLen, likeShard, dataLen, shardLen, ownLen}
 use Rattle.dealing.specs.Dealt.{joinedTo, ownBytes, shardBytes}
 use Rattle.dealing.specs.Laws.{HasAt, Placed, FromShard, CellOfShard}
-use Rattle.dealing.proofs.Numbers.{whole-rows, begun-row, cellLen-full, cellLen-begun, cellLen-past, rows-whole, rows-begun, cellLen-of-shard, byteOf-place, only-cell, shard-of-byteOf, place-of-byteOf}
+use Rattle.dealing.proofs.Numbers.{whole-rows, begun-row, cellLen-full, cellLen-begun, cellLen-past, rows-whole, rows-begun, cellLen-of-shard, byteOf-place, only-cell, shard-of-byteOf, place-of-byteOf, likeShard-lt, shardLen-is, ownLen-is}
 use Rattle.dealing.proofs.Joining.{length-joined, joined-at}
 
 -- a cell has as many bytes of its own as the numbers say
@@ -121,3 +121,11 @@ module _ (d s : ℕ) (block : List ℕ) (dp : 0 < d) (sp : 0 < s) where
         itsShard = shard-of-byteOf d s i o sp hi;
         itsPlace = place-of-byteOf d s i o sp hi;
       }
+
+  -- any shard is as long as the numbers say, and so is any shard's cell
+  pub length-any-shard : (p i : ℕ) → i < d + p → length (shardBytes d s block (likeShard d i)) ≡ shardLen d p s (length block) i
+  length-any-shard p i h =
+      length-shard (likeShard d i) (likeShard-lt d i dp) ∙ sym (shardLen-is d p s (length block) i h)
+
+  pub length-any-own : (p i k : ℕ) → i < d + p → length (ownBytes s block (k * d + likeShard d i)) ≡ ownLen d p s (length block) i k
+  length-any-own p i k h = length-own s block (k * d + likeShard d i) ∙ sym (ownLen-is d p s (length block) i k h)

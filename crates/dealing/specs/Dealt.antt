@@ -2,7 +2,7 @@
 use Prim.Native.Nat.{ℕ, zero, suc, _+_, _-_, _*_}
 use mathlib.Core.List.{List, [], _++_}
 use lib.ListN.{length, take, drop, replicate}
-use Rattle.dealing.specs.Places.{rowsOf, partLen, partStart}
+use Rattle.dealing.specs.Places.{rowBytes, rowsOf, partLen, partStart}
 
 -- the first m of the bytes, filled with zeros to m
 unfoldable pub padded : ℕ → List ℕ → List ℕ
@@ -34,4 +34,4 @@ shardBytes d s block i = joinedTo (λ k. ownBytes s block (k * d + i)) (rowsOf d
 
 -- what row k has of the l bytes from byte a
 abbrev pub rowPart : ℕ → ℕ → List ℕ → ℕ → ℕ → ℕ → List ℕ
-rowPart d s block a l k = take (partLen d s k a l) (drop (partStart d s k a l) (rowCells d s block k))
+rowPart d s block a l k = take (partLen (rowBytes d s) k a l) (drop (partStart (rowBytes d s) k a l) (rowCells d s block k))

@@ -3,7 +3,7 @@ use Prim.Native.Nat.{ℕ, _+_, _-_, _*_, _%_, _<_, _≤_}
 use mathlib.Core.Path.{_≡_}
 use mathlib.Core.List.{List}
 use lib.ListN.{length, getD, take, drop}
-use Rattle.dealing.specs.Places.{cellOf, rowOf, shardOf, shardPlace, byteOf, rowBytes, rowsOf, likeShard}
+use Rattle.dealing.specs.Places.{cellOf, rowOf, shardOf, shardPlace, rowPlace, byteOf, rowBytes, rowsOf, likeShard}
 use Rattle.dealing.specs.Dealt.{joinedTo, ownBytes, shardBytes, allCells, rowPart}
 
 -- the list has byte v at place t
@@ -33,7 +33,7 @@ pub record Least (d s n r : ℕ) : Type 0 where
 
 -- what a cell has for its own is what its shard has from the row's first place, at most s bytes
 abbrev pub CellOfShard : ℕ → ℕ → List ℕ → ℕ → ℕ → Type 0
-CellOfShard d s block i k = ownBytes s block (k * d + i) ≡ take s (drop (k * s) (shardBytes d s block i))
+CellOfShard d s block i k = ownBytes s block (k * d + i) ≡ take s (drop (rowPlace s k) (shardBytes d s block i))
 
 -- what the rows have of a range, joined, is the range
 abbrev pub PartsAreRange : ℕ → ℕ → List ℕ → ℕ → ℕ → Type 0

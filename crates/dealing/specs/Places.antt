@@ -18,6 +18,10 @@ shardOf d c = c % d
 abbrev pub shardPlace : ℕ → ℕ → ℕ → ℕ
 shardPlace d s b = rowOf d (cellOf s b) * s + b % s
 
+-- where in a shard its cell of row k begins
+abbrev pub rowPlace : ℕ → ℕ → ℕ
+rowPlace s k = k * s
+
 -- the byte of the block that stands at place o of data shard i
 abbrev pub byteOf : ℕ → ℕ → ℕ → ℕ → ℕ
 byteOf d s i o = (o / s * d + i) * s + o % s
@@ -26,9 +30,9 @@ byteOf d s i o = (o / s * d + i) * s + o % s
 abbrev pub rowBytes : ℕ → ℕ → ℕ
 rowBytes d s = d * s
 
--- how many rows a block has: its last row may be begun only
+-- how many rows a block has: the whole ones, and the one that is begun
 abbrev pub rowsOf : ℕ → ℕ → ℕ → ℕ
-rowsOf d s n = (n + (rowBytes d s - 1)) / rowBytes d s
+rowsOf d s n = n / rowBytes d s + cond (eqb (n % rowBytes d s) 0) 0 1
 
 -- how many bytes of the block data cell c has
 abbrev pub cellLen : ℕ → ℕ → ℕ → ℕ
@@ -50,9 +54,9 @@ shardLen d p s n i = cond (ltb i (d + p)) (dataLen d s n (likeShard d i)) 0
 abbrev pub ownLen : ℕ → ℕ → ℕ → ℕ → ℕ → ℕ → ℕ
 ownLen d p s n i k = cond (ltb i (d + p)) (cellLen s n (k * d + likeShard d i)) 0
 
--- how many of the l bytes from byte a lie in row k, and where in the row's data cells the first of them is
-abbrev pub partLen : ℕ → ℕ → ℕ → ℕ → ℕ → ℕ
-partLen d s k a l = min (a + l) ((k + 1) * rowBytes d s) - max a (k * rowBytes d s)
+-- how many of the l bytes from byte a lie in row k, and where in the row's data cells the first of them is; w is the row's bytes
+abbrev pub partLen : ℕ → ℕ → ℕ → ℕ → ℕ
+partLen w k a l = min (a + l) ((k + 1) * w) - max a (k * w)
 
-abbrev pub partStart : ℕ → ℕ → ℕ → ℕ → ℕ → ℕ
-partStart d s k a l = cond (eqb (partLen d s k a l) 0) 0 (a - k * rowBytes d s)
+abbrev pub partStart : ℕ → ℕ → ℕ → ℕ → ℕ
+partStart w k a l = cond (eqb (partLen w k a l) 0) 0 (a - k * w)
