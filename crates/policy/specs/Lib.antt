@@ -1,0 +1,5 @@
+pub mod Codecs
+pub mod Limits
+pub mod Faults
+pub mod Policies
+pub mod Resolved
