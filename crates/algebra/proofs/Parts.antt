@@ -15,6 +15,12 @@ use Rattle.algebra.proofs.Numbers.{below-next}
 use Rattle.algebra.proofs.Algebra.{zero-plus, times-zero, sum-same, pick-left}
 use Rattle.algebra.proofs.Lists.{Each, total, Falling, Independent, PartIndependent, falling-up}
 
+pub generator-upper : {F : Type 0} (K : Ops F) (d : ℕ) (part : ℕ → ℕ → F) (r c : ℕ) → r < d → generator K d part r c ≡ identity K r c
+generator-upper K d part r c h = ap (λ t. cond t (identity K r c) (part r c)) (lt-ltb r d h)
+
+pub generator-lower : {F : Type 0} (K : Ops F) (d : ℕ) (part : ℕ → ℕ → F) (r c : ℕ) → d ≤ r → generator K d part r c ≡ part r c
+generator-lower K d part r c h = ap (λ t. cond t (identity K r c) (part r c)) (le-ltb r d h)
+
 -- the columns below n that are not there, the last first
 abbrev missing : (ℕ → Bool) → ℕ → List ℕ
 missing there zero = []
@@ -99,14 +105,14 @@ module _ {F : Type 0} {K : Ops F} (L : FieldLaws K) where
       shown : (c : ℕ) → c < d → there c ≡ true → v c ≡ O
       shown c l e =
           sym (pick-left L d c v l) ∙ sum-same L d (λ k. identity K c k ⊗ v k) (λ k. generator K d part c k ⊗ v k)
-          (λ k i. ap (λ b. cond b (identity K c k) (part c k) ⊗ v k) (sym (lt-ltb c d l))) ∙ h c (omega arith) e
+          (λ k i. ap (λ x. x ⊗ v k) (sym (generator-upper K d part c k l))) ∙ h c (omega arith) e
 
       -- a row of the part is an equation of the missing ones alone
       lower : (r : ℕ) → d ≤ r → r < d + p → there r ≡ true → total K (λ y. part r y ⊗ v y) (missing there d) ≡ O
       lower r i k e =
           sym (sum-missing there d (λ y. part r y ⊗ v y) (λ y j t. ap (λ a. part r y ⊗ a) (shown y j t) ∙ times-zero L (part r y)))
           ∙ sum-same L d (λ y. part r y ⊗ v y) (λ y. generator K d part r y ⊗ v y)
-          (λ y j. ap (λ b. cond b (identity K r y) (part r y) ⊗ v y) (sym (le-ltb r d i))) ∙ h r k e
+          (λ y j. ap (λ x. x ⊗ v y) (sym (generator-lower K d part r y i))) ∙ h r k e
 
       few : length (missing there d) ≤ length (spare there d p)
       few = let a = missing-count there d in let b = spare-count there d p in omega arith

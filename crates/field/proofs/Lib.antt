@@ -1,1 +1,3 @@
 pub mod Elements
+pub mod Laws256
+pub mod Laws2

@@ -2,7 +2,7 @@ use mathlib.Core.Path.{_≡_, refl, sym, ap, _∙_}
 use mathlib.Core.Logic.{⊎-elim}
 use Prim.Native.Nat.{ℕ, _+_, _≤_, _<_}
 use native.Mathlib.Omega.{arith}
-use lib.ListN.{getD, length}
+use lib.ListN.{getD}
 use Rattle.algebra.specs.Fields.{Ops, FieldLaws}
 use Rattle.algebra.specs.Matrices.{mixed}
 use Rattle.algebra.proofs.Numbers.{same-or-not}
@@ -23,4 +23,4 @@ loop-i-again g c =
     row-more s (c .args .target) _ _ i (c .mix-byte-byte .result) _ _ (omega arith) (c .loop-i .inv)
     (put-set 0 s (c .args .target) i (c .byte-place-at .result) (c .mix-byte-byte .result) (c .loop-i .cells) (omega arith) (c .byte-place-at .ensures .value) (c .byte-place-at .ensures .bound))
     (c .mix-byte-byte .ensures
-    ∙ mixed-same (g .F·Field·met .field) (length (c .args .coefficients .now)) _ _ _ (λ k l. due s i (c .args .target) _ _ _ (omega arith) (c .loop-i .inv) (getD (c .args .sources .now) k 0)))
+    ∙ mixed-same (g .F·Field·met .field) (c .args .sides .cols) _ _ _ (λ k l. due s i (c .args .target) _ _ _ (omega arith) (c .loop-i .inv) (getD (c .args .sources .now) k 0)))

@@ -1,10 +1,8 @@
 use mathlib.Core.Path.{_≡_, sym, ap, ap₂, _∙_}
 use Prim.Native.Nat.{ℕ, _+_}
 use native.Mathlib.Numerals.{add-one}
-use native.Mathlib.Omega.{arith}
 use lib.Bits.{bitXor}
 use lib.ListN.{getD}
-use Rattle.std.proofs.shelf.Lists.{getD-read}
 use Rattle.algebra.specs.Sums.{xors}
 use Rattle.matrix.proofs.action.mix_byte.Needs as need
 
@@ -16,8 +14,5 @@ pub loop-k-again : need.loop-k-again
 loop-k-again g c =
     let K = g .F·Field .ops in
     ap₂ bitXor (c .loop-k .inv)
-    (c .act-sum .ensures
-    ∙ ap₂ (λ (x : g .F .Denot) (i : ℕ). K .act x (getD (c .args .cells .now) i 0))
-    (getD-read (c .args .coefficients .now) (c .loop-k .k) (c .index-coefficients-k .result) (omega arith) (c .index-coefficients-k .is) (K .zero))
-    (c .byte-place-at .ensures .value))
+    (c .act-sum .ensures ∙ ap₂ (λ (x : g .F .Denot) (i : ℕ). K .act x (getD (c .args .cells .now) i 0)) (c .entry-x .ensures) (c .byte-place-at .ensures .value))
     ∙ xors-more (c .loop-k .k) _

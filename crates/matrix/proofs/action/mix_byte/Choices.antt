@@ -7,4 +7,4 @@ use Rattle.matrix.proofs.action.mix_byte.Given as given
 abbrev pub Inv-loop-k : given.InvT-loop-k
 Inv-loop-k g l =
     let K = g .F·Field .ops in
-    l .sum ≡ mixed K (l .k) (λ k. getD (l .coefficients) k (K .zero)) (λ k. grid 0 (l .cell-size) (l .cells) (getD (l .sources) k 0) (l .i))
+    l .sum ≡ mixed K (l .k) (grid (K .zero) (l .sides .cols) (l .m) (l .row)) (λ k. grid 0 (l .cell-size) (l .cells) (getD (l .sources) k 0) (l .i))
