@@ -5,13 +5,13 @@ use mathlib.Core.Logic.{⊎-elim}
 use mathlib.Core.Bool.{cond}
 use mathlib.Core.List.{List, [], _++_}
 use lib.Dec.{eqb}
-use lib.ListN.{length, getD, take, drop}
+use lib.ListN.{length, getD, take, drop, replicate}
 use lib.Seq.{take-add}
 use native.Mathlib.Omega.{arith}
 use Rattle.std.proofs.shelf.Lists.{length-take, length-drop, getD-take, getD-drop, drop-drop, take-all, ext-getD}
 use Rattle.std.proofs.shelf.Tests.{cases-lt, ne-eqb, cond-false}
-use Rattle.dealing.specs.Places.{rowBytes, rowsOf, partLen, partStart}
-use Rattle.dealing.specs.Dealt.{padded, joinedTo, cellBytes, rowCells, allCells, rowPart}
+use Rattle.dealing.specs.Places.{rowBytes, rowsOf, cellLen, partLen, partStart}
+use Rattle.dealing.specs.Dealt.{padded, joinedTo, ownBytes, cellBytes, rowCells, allCells, rowPart}
 use Rattle.dealing.specs.Laws.{RowsAreBlock, PartsAreRange}
 use Rattle.dealing.proofs.Numbers.{cell-ends, rows-least}
 use Rattle.dealing.proofs.Padding.{length-padded, padded-at, part-padded}
@@ -23,6 +23,13 @@ length-cell s block c = length-padded s (drop (c * s) block)
 
 pub cell-at : (s : ℕ) (block : List ℕ) (c t : ℕ) → t < s → getD (cellBytes s block c) t 0 ≡ getD block (c * s + t) 0
 cell-at s block c t h = padded-at s (drop (c * s) block) t h ∙ getD-drop (c * s) block t 0
+
+-- a cell is what it has for its own, and zeros
+pub cell-is : (s : ℕ) (block : List ℕ) (c : ℕ) → cellBytes s block c ≡ ownBytes s block c ++ replicate (s - cellLen s (length block) c) 0
+unfolding padded
+cell-is s block c =
+    let e : s - length (drop (c * s) block) ≡ s - cellLen s (length block) c = simp length-drop (omega arith) in
+    ap (λ (z : ℕ). ownBytes s block c ++ replicate z 0) e
 
 module _ (d s : ℕ) (block : List ℕ) where
   -- a row's data cells are one stretch of the block
