@@ -1,12 +1,12 @@
 -- Rows, cells and places as numbers: where a row begins, how long cells and shards are.
-use Prim.Native.Nat.{ℕ, _+_, _-_, _*_, _/_, _%_, _≤_, _<_, min, max}
-use mathlib.Core.Path.{_≡_, refl, sym, ap, _∙_}
-use mathlib.Core.Logic.{_⊎_, inl, inr, ⊎-elim}
+use Prim.Native.Nat.{ℕ, _+_, _-_, _*_, _/_, _%_, _≤_, _<_, min}
+use mathlib.Core.Path.{_≡_, sym, ap, _∙_}
+use mathlib.Core.Logic.{⊎-elim}
 use lib.Dec.{eqb, ltb}
 use native.Mathlib.Omega.{arith}
-use Rattle.std.proofs.shelf.Bits.{mul-le, mul-lt, div-below, le-div, mod-below, div-mul-add, mod-mul-add, div-add-mod'}
+use Rattle.std.proofs.shelf.Bits.{mul-le, mod-below, div-mul-add, mod-mul-add, div-add-mod'}
 use Rattle.std.proofs.shelf.Tests.{cases-lt, cases-eq, cases-order, eq-eqb, ne-eqb, ltb-true, lt-ltb, le-ltb, cond-true, cond-false, cond-both}
-use Rattle.dealing.specs.Places.{cellOf, rowOf, shardOf, shardPlace, byteOf, rowBytes, rowsOf, cellLen, likeShard, dataLen, shardLen, ownLen, rowPlace, partLen, partStart}
+use Rattle.dealing.specs.Places.{cellOf, shardOf, shardPlace, byteOf, rowsOf, cellLen, likeShard, dataLen, shardLen, ownLen, rowPlace, partLen, partStart}
 use Rattle.dealing.specs.Laws.{Least}
 
 -- a row's bytes are at least one

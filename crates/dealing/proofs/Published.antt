@@ -1,6 +1,6 @@
 -- The published example, computed from the definitions: a block of 30 bytes with 3 data and 2 parity cells of 4 bytes.
 use mathlib.Core.Path.{_≡_, refl}
-use mathlib.Core.List.{List, [], _∷_, map}
+use mathlib.Core.List.{[], _∷_, map}
 use Prim.Native.Nat.{ℕ}
 use Rattle.dealing.specs.Places.{rowBytes, rowsOf, shardLen, ownLen, partLen, partStart}
 
