@@ -1,3 +1,4 @@
+-- The byte is at the places that are told, and nowhere else.
 use borrow.Author.Needs.{needs}
 use mathlib.Core.Path.{_≡_}
 use native.Mathlib.Omega.{arith}

@@ -1,3 +1,4 @@
+-- A row has at least one byte, and so many rows are the block.
 use mathlib.Core.Path.{_≡_}
 use native.Mathlib.Omega.{arith}
 use Rattle.dealing.specs.Places.{rowsOf}

@@ -1,3 +1,4 @@
+-- A row is small, and its part of a range is the block's.
 use mathlib.Core.Path.{_≡_}
 use native.Mathlib.Omega.{arith}
 use Rattle.std.proofs.shelf.Bits.{mul-le}

@@ -1,3 +1,4 @@
+-- What a cell has for its own is what its shard has in that row.
 use Prim.Native.Nat.{_^_}
 use mathlib.Core.Path.{_≡_, sym, _∙_}
 use native.Mathlib.Omega.{arith}
