@@ -61,7 +61,7 @@ fn place_in_shard(schema: EcSchema, offset: u64) -> u64
 // The one place of a byte of the block.
 pub fn locate(schema: EcSchema, offset: u64) -> Location
     ensures value { λ r. ⌜ r ≡ locationOf (schema .«data_units») (schema .«cell_size») offset ⌝ }
-    ensures placed { λ _. ⌜ ((block : List ℕ) → offset < length block → Placed (schema .«data_units») (schema .«cell_size») block offset) ⌝ }
+    ensures placed { λ r. ⌜ ((block : List ℕ) → offset < length block → Placed (schema .«data_units») (schema .«cell_size») block offset (r .cell) (r .row) (r .shard) (r .«offset_in_shard») (r .«offset_in_cell»)) ⌝ }
     ensures found_back { λ r. ⌜ byteOf (schema .«data_units») (schema .«cell_size») (r .shard) (r .«offset_in_shard») ≡ offset ⌝ }
 {
     let cell = cell_for_offset(schema, offset);

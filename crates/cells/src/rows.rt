@@ -6,7 +6,7 @@ ghost use mathlib.Core.Bool.{cond};
 ghost use lib.Dec.{eqb};
 ghost use lib.ListN.{length};
 ghost use Rattle.dealing.specs.Places.{rowBytes, rowsOf};
-ghost use Rattle.dealing.specs.Laws.{Least, RowsAreBlock, PartsAreRange};
+ghost use Rattle.dealing.specs.Laws.{Least, RowsAreBlock, PartOfBlock, PartsAreRange};
 ghost use Rattle.cells.specs.Found.{rangeOf};
 use crate::places::row_size;
 use policy::EcSchema;
@@ -31,7 +31,7 @@ fn stretches(len: u64, size: u64) -> u64
 pub fn row_count(schema: EcSchema, block_len: u64) -> u64
     ensures value { λ r. ⌜ r ≡ rowsOf (schema .«data_units») (schema .«cell_size») «block_len» ⌝ }
     ensures least { λ r. ⌜ Least (schema .«data_units») (schema .«cell_size») «block_len» r ⌝ }
-    ensures rows_are_block { λ _. ⌜ ((block : List ℕ) → length block ≡ «block_len» → RowsAreBlock (schema .«data_units») (schema .«cell_size») block) ⌝ }
+    ensures rows_are_block { λ r. ⌜ ((block : List ℕ) → length block ≡ «block_len» → RowsAreBlock (schema .«data_units») (schema .«cell_size») block r) ⌝ }
 {
     stretches(block_len, row_size(schema) as u64)
 }
@@ -57,6 +57,7 @@ fn part_of_row(size: usize, row: u64, offset: u64, len: u64) -> RowRange
 pub fn row_range(schema: EcSchema, row: u64, offset: u64, len: u64) -> RowRange
     ensures value { λ r. ⌜ r ≡ rangeOf (rowBytes (schema .«data_units») (schema .«cell_size»)) row offset len ⌝ }
     ensures in_the_row { λ r. ⌜ r .start + r .len ≤ rowBytes (schema .«data_units») (schema .«cell_size») ⌝ }
+    ensures part_of_block { λ r. ⌜ ((block : List ℕ) → offset + len ≤ length block → PartOfBlock (schema .«data_units») (schema .«cell_size») block row offset (r .start) (r .len)) ⌝ }
     ensures parts_are_range { λ _. ⌜ ((block : List ℕ) → offset + len ≤ length block → PartsAreRange (schema .«data_units») (schema .«cell_size») block offset len) ⌝ }
 {
     part_of_row(row_size(schema), row, offset, len)

@@ -3,3 +3,4 @@ pub mod Padding
 pub mod Joining
 pub mod Rows
 pub mod Shards
+pub mod Published

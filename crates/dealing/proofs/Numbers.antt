@@ -1,12 +1,12 @@
 -- Rows, cells and places as numbers: where a row begins, how long cells and shards are.
-use Prim.Native.Nat.{ℕ, _+_, _-_, _*_, _/_, _%_, _≤_, _<_, min, max}
-use mathlib.Core.Path.{_≡_, refl, sym, ap, _∙_}
-use mathlib.Core.Logic.{_⊎_, inl, inr, ⊎-elim}
+use Prim.Native.Nat.{ℕ, _+_, _-_, _*_, _/_, _%_, _≤_, _<_, min}
+use mathlib.Core.Path.{_≡_, sym, ap, _∙_}
+use mathlib.Core.Logic.{⊎-elim}
 use lib.Dec.{eqb, ltb}
 use native.Mathlib.Omega.{arith}
-use Rattle.std.proofs.shelf.Bits.{mul-le, mul-lt, div-below, le-div, mod-below, div-mul-add, mod-mul-add, div-add-mod'}
+use Rattle.std.proofs.shelf.Bits.{mul-le, mod-below, div-mul-add, mod-mul-add, div-add-mod'}
 use Rattle.std.proofs.shelf.Tests.{cases-lt, cases-eq, cases-order, eq-eqb, ne-eqb, ltb-true, lt-ltb, le-ltb, cond-true, cond-false, cond-both}
-use Rattle.dealing.specs.Places.{cellOf, rowOf, shardOf, shardPlace, byteOf, rowBytes, rowsOf, cellLen, likeShard, dataLen, shardLen, ownLen, rowPlace, partLen, partStart}
+use Rattle.dealing.specs.Places.{cellOf, shardOf, shardPlace, byteOf, rowsOf, cellLen, likeShard, dataLen, shardLen, ownLen, rowPlace, partLen, partStart}
 use Rattle.dealing.specs.Laws.{Least}
 
 -- a row's bytes are at least one
@@ -73,6 +73,15 @@ module _ (d s n : ℕ) (dp : 0 < d) (sp : 0 < s) where
       })
       (cases-lt (n % (d * s)) 1)
 
+  -- only the last row has cells that are not full
+  pub cellLen-inner : (k i : ℕ) → i < d → k + 1 < rowsOf d s n → cellLen s n (k * d + i) ≡ s
+  cellLen-inner k i hi h =
+      let b = begun-row in
+      ⊎-elim
+      (λ (w : n % (d * s) < 1). cellLen-full k i hi (omega (arith, rows-whole (omega arith))))
+      (λ (w : 1 ≤ n % (d * s)). cellLen-full k i hi (omega (arith, rows-begun w)))
+      (cases-lt (n % (d * s)) 1)
+
   -- a data cell has what its shard has from the row's first place
   pub cellLen-of-shard : (k i : ℕ) → i < d → cellLen s n (k * d + i) ≡ min s (dataLen d s n i - k * s)
   cellLen-of-shard k i hi =
@@ -90,6 +99,10 @@ module _ (d s n : ℕ) (dp : 0 < d) (sp : 0 < s) where
   -- so a data shard is no longer than the block
   pub dataLen-le : (i : ℕ) → dataLen d s n i ≤ n
   dataLen-le i = omega (arith, whole-le)
+
+  -- no shard is longer than shard 0
+  pub dataLen-le-first : (i : ℕ) → dataLen d s n i ≤ dataLen d s n 0
+  dataLen-le-first i = omega arith
 
 -- what shard i is as long as is a data shard, and a data shard is itself
 pub likeShard-lt : (d i : ℕ) → 0 < d → likeShard d i < d

@@ -1,18 +1,17 @@
 -- The data cells of rows are the block with zeros after it, and the parts of a range in the rows are the range.
 use Prim.Native.Nat.{ℕ, zero, suc, _+_, _-_, _*_, _≤_, _<_, min, max}
-use mathlib.Core.Path.{_≡_, refl, sym, ap, _∙_}
+use mathlib.Core.Path.{_≡_, sym, ap, _∙_}
 use mathlib.Core.Logic.{⊎-elim}
-use mathlib.Core.Bool.{cond}
-use mathlib.Core.List.{List, [], _++_}
+use mathlib.Core.List.{List, _++_}
 use lib.Dec.{eqb}
-use lib.ListN.{length, getD, take, drop}
+use lib.ListN.{length, getD, take, drop, replicate}
 use lib.Seq.{take-add}
 use native.Mathlib.Omega.{arith}
 use Rattle.std.proofs.shelf.Lists.{length-take, length-drop, getD-take, getD-drop, drop-drop, take-all, ext-getD}
 use Rattle.std.proofs.shelf.Tests.{cases-lt, ne-eqb, cond-false}
-use Rattle.dealing.specs.Places.{rowBytes, rowsOf, partLen, partStart}
-use Rattle.dealing.specs.Dealt.{padded, joinedTo, cellBytes, rowCells, allCells, rowPart}
-use Rattle.dealing.specs.Laws.{RowsAreBlock, PartsAreRange}
+use Rattle.dealing.specs.Places.{rowsOf, cellLen, partLen, partStart}
+use Rattle.dealing.specs.Dealt.{padded, joinedTo, ownBytes, cellBytes, rowCells, rowPart}
+use Rattle.dealing.specs.Laws.{RowsAreBlock, PartOfBlock, PartsAreRange}
 use Rattle.dealing.proofs.Numbers.{cell-ends, rows-least}
 use Rattle.dealing.proofs.Padding.{length-padded, padded-at, part-padded}
 use Rattle.dealing.proofs.Joining.{joined-same, joined-padded}
@@ -23,6 +22,13 @@ length-cell s block c = length-padded s (drop (c * s) block)
 
 pub cell-at : (s : ℕ) (block : List ℕ) (c t : ℕ) → t < s → getD (cellBytes s block c) t 0 ≡ getD block (c * s + t) 0
 cell-at s block c t h = padded-at s (drop (c * s) block) t h ∙ getD-drop (c * s) block t 0
+
+-- a cell is what it has for its own, and zeros
+pub cell-is : (s : ℕ) (block : List ℕ) (c : ℕ) → cellBytes s block c ≡ ownBytes s block c ++ replicate (s - cellLen s (length block) c) 0
+unfolding padded
+cell-is s block c =
+    let e : s - length (drop (c * s) block) ≡ s - cellLen s (length block) c = simp length-drop (omega arith) in
+    ap (λ (z : ℕ). ownBytes s block c ++ replicate z 0) e
 
 module _ (d s : ℕ) (block : List ℕ) where
   -- a row's data cells are one stretch of the block
@@ -58,7 +64,7 @@ module _ (d s : ℕ) (block : List ℕ) where
       (λ k h. row-is k ∙ ap (λ (x : ℕ). padded (d * s) (drop (x * (d * s)) block)) (omega arith))
       ∙ joined-padded (d * s) 0 m block ∙ ap (λ (x : ℕ). padded (m * (d * s)) (drop x block)) e
 
-  pub rows-are-block : 0 < d → 0 < s → RowsAreBlock d s block
+  pub rows-are-block : 0 < d → 0 < s → RowsAreBlock d s block (rowsOf d s (length block))
   rows-are-block dp sp =
       ap (λ (x : List ℕ). take (length block) x) (rows-are (rowsOf d s (length block)))
       ∙ part-padded (rowsOf d s (length block) * (d * s)) 0 (length block) block
@@ -85,6 +91,13 @@ module _ (d s : ℕ) (block : List ℕ) (a l : ℕ) (inside : a + l ≤ length b
       ∙ ap (λ (r : List ℕ). take (partLen (d * s) k a l) r)
       (drop-drop (a - k * (d * s)) (k * (d * s)) block ∙ ap (λ (n : ℕ). drop n block) at ∙ sym (drop-drop x a block)))
       (cases-lt (partLen (d * s) k a l) 1)
+
+  pub part-of-block : (k : ℕ) → PartOfBlock d s block k a (partStart (d * s) k a l) (partLen (d * s) k a l)
+  part-of-block k =
+      let from : a + (max a (k * (d * s)) - a) ≡ max a (k * (d * s)) = omega arith in
+      part-is k (max a (k * (d * s)) - a) (λ h. from)
+      ∙ ap (λ (r : List ℕ). take (partLen (d * s) k a l) r)
+      (drop-drop (max a (k * (d * s)) - a) a block ∙ ap (λ (n : ℕ). drop n block) from)
 
   -- the first m rows have the range's bytes below their end
   pub parts-upTo : (m : ℕ) → joinedTo (rowPart d s block a l) m ≡ take (min (a + l) (m * (d * s)) - a) (drop a block)

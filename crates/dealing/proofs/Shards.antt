@@ -1,18 +1,18 @@
 -- The data shards: how long they are, and which byte of the block stands where.
-use Prim.Native.Nat.{ℕ, zero, suc, _+_, _-_, _*_, _/_, _%_, _≤_, _<_, min}
-use mathlib.Core.Path.{_≡_, refl, sym, ap, _∙_}
+use Prim.Native.Nat.{ℕ, _+_, _-_, _*_, _/_, _%_, _≤_, _<_, min}
+use mathlib.Core.Path.{_≡_, sym, ap, _∙_}
 use mathlib.Core.Logic.{⊎-elim}
-use mathlib.Core.List.{List, [], _++_}
+use mathlib.Core.List.{List}
 use lib.ListN.{length, getD, take, drop}
 use native.Mathlib.Omega.{arith}
 use native.Mathlib.Numerals.{add-one}
 use Rattle.std.proofs.shelf.Bits.{mod-below, div-add-mod'}
 use Rattle.std.proofs.shelf.Lists.{length-append, length-take, length-drop, getD-take, getD-drop, ext-getD}
 use Rattle.std.proofs.shelf.Tests.{cases-lt, cases-order}
-use Rattle.dealing.specs.Places.{cellOf, rowOf, shardOf, shardPlace, byteOf, rowsOf, cellLen, likeShard, dataLen, shardLen, ownLen}
+use Rattle.dealing.specs.Places.{cellOf, rowOf, shardOf, shardPlace, rowsOf, cellLen, likeShard, dataLen, shardLen, ownLen}
 use Rattle.dealing.specs.Dealt.{joinedTo, ownBytes, shardBytes}
-use Rattle.dealing.specs.Laws.{HasAt, Placed, FromShard, CellOfShard}
-use Rattle.dealing.proofs.Numbers.{whole-rows, begun-row, cellLen-full, cellLen-begun, cellLen-past, rows-whole, rows-begun, cellLen-of-shard, byteOf-place, only-cell, shard-of-byteOf, place-of-byteOf, likeShard-lt, shardLen-is, ownLen-is}
+use Rattle.dealing.specs.Laws.{Placed, FromShard, CellOfShard}
+use Rattle.dealing.proofs.Numbers.{cellLen-full, cellLen-begun, cellLen-past, rows-whole, rows-begun, cellLen-of-shard, only-cell, shard-of-byteOf, place-of-byteOf, likeShard-lt, shardLen-is, ownLen-is}
 use Rattle.dealing.proofs.Joining.{length-joined, joined-at}
 
 -- a cell has as many bytes of its own as the numbers say
@@ -90,10 +90,9 @@ module _ (d s : ℕ) (block : List ℕ) (dp : 0 < d) (sp : 0 < s) where
       own-at s block (k * d + i) t lt ∙ sym (shard-at i k t hi h)
       ∙ sym (getD-drop (k * s) (shardBytes d s block i) t 0) ∙ sym (getD-take s (drop (k * s) (shardBytes d s block i)) t 0 lt))
 
-  pub placed : (b : ℕ) → b < length block → Placed d s block b
+  pub placed : (b : ℕ) → b < length block → Placed d s block b (cellOf s b) (rowOf d (cellOf s b)) (shardOf d (cellOf s b)) (shardPlace d s b) (b % s)
   placed b h =
       let n : ℕ = length block in
-      let c : ℕ = b / s in
       let t = mod-below b s sp in
       let i = mod-below (b / s) d dp in
       let here : b / s / d * d + b / s % d ≡ b / s = div-add-mod' (b / s) d in
@@ -101,12 +100,17 @@ module _ (d s : ℕ) (block : List ℕ) (dp : 0 < d) (sp : 0 < s) where
       let own : b % s < cellLen s n (b / s) = omega arith in
       let own′ : b % s < cellLen s n (b / s / d * d + b / s % d) = rw here own in
       record {
-        inCell = (rw (length-own s block (b / s)) own, own-at s block (b / s) (b % s) t ∙ ap (λ (x : ℕ). getD block x 0) byte);
-        inShard = (
+        cellIs = sym here;
+        cellHas = (rw (length-own s block (b / s)) own, own-at s block (b / s) (b % s) t ∙ ap (λ (x : ℕ). getD block x 0) byte);
+        shardHas = (
           rw (length-shard (b / s % d) i) (omega (arith, own′, cellLen-of-shard d s n dp sp (b / s / d) (b / s % d) i)),
           shard-at (b / s % d) (b / s / d) (b % s) i own′ ∙ ap (λ (x : ℕ). getD block (x * s + b % s) 0) here ∙ ap (λ (x : ℕ). getD block x 0) byte,
         );
-        onlyThere = only-cell d s b dp sp;
+        oneCell = only-cell d s b dp sp;
+        oneShard = λ i o hi e. (
+          sym (shard-of-byteOf d s i o sp hi) ∙ ap (λ (x : ℕ). shardOf d (cellOf s x)) e,
+          sym (place-of-byteOf d s i o sp hi) ∙ ap (λ (x : ℕ). shardPlace d s x) e,
+        );
       }
 
   pub from-shard : (i o : ℕ) → i < d → o < length (shardBytes d s block i) → FromShard d s block i o

@@ -24,9 +24,9 @@ cellBytes s block c = padded s (drop (c * s) block)
 abbrev pub rowCells : ℕ → ℕ → List ℕ → ℕ → List ℕ
 rowCells d s block k = joinedTo (λ i. cellBytes s block (k * d + i)) d
 
--- the data cells of all rows
-abbrev pub allCells : ℕ → ℕ → List ℕ → List ℕ
-allCells d s block = joinedTo (rowCells d s block) (rowsOf d s (length block))
+-- the data cells of the first m rows
+abbrev pub firstRows : ℕ → ℕ → List ℕ → ℕ → List ℕ
+firstRows d s block m = joinedTo (rowCells d s block) m
 
 -- data shard i: what its cells have for their own, row by row
 abbrev pub shardBytes : ℕ → ℕ → List ℕ → ℕ → List ℕ

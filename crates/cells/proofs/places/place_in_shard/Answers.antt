@@ -1,3 +1,4 @@
+-- A byte's place in its shard is no further than the byte, so it fits.
 use Prim.Native.Nat.{_/_}
 use mathlib.Core.Path.{_≡_}
 use native.Mathlib.Omega.{arith}

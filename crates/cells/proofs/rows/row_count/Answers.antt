@@ -1,3 +1,4 @@
+-- A row has at least one byte, and so many rows are the block.
 use mathlib.Core.Path.{_≡_}
 use native.Mathlib.Omega.{arith}
 use Rattle.dealing.specs.Places.{rowsOf}
@@ -14,5 +15,5 @@ returns c =
     record {
       value = count;
       least = rw count (rows-least (c .args .schema .«data_units») (c .args .schema .«cell_size») (c .args .block-len) (omega arith) (omega arith));
-      rows-are-block = λ block h. rows-are-block (c .args .schema .«data_units») (c .args .schema .«cell_size») block (omega arith) (omega arith);
+      rows-are-block = λ block h. rw (count, ← h) (rows-are-block (c .args .schema .«data_units») (c .args .schema .«cell_size») block (omega arith) (omega arith));
     }

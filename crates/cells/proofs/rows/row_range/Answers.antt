@@ -1,9 +1,10 @@
+-- A row is small, and its part of a range is the block's.
 use mathlib.Core.Path.{_≡_}
 use native.Mathlib.Omega.{arith}
 use Rattle.std.proofs.shelf.Bits.{mul-le}
 use Rattle.dealing.specs.Places.{rowBytes}
 use Rattle.dealing.proofs.Numbers.{part-in-row}
-use Rattle.dealing.proofs.Rows.{parts-are-range}
+use Rattle.dealing.proofs.Rows.{part-of-block, parts-are-range}
 use Rattle.cells.specs.Found.{rangeOf}
 use Rattle.cells.proofs.rows.row_range.Needs as need
 
@@ -16,5 +17,6 @@ returns c =
     record {
       value = range;
       in-the-row = rw range (part-in-row (rowBytes (c .args .schema .«data_units») (c .args .schema .«cell_size»)) (c .args .row) (c .args .offset) (c .args .len));
+      part-of-block = λ block h. rw range (part-of-block (c .args .schema .«data_units») (c .args .schema .«cell_size») block (c .args .offset) (c .args .len) h (c .args .row));
       parts-are-range = λ block h. parts-are-range (c .args .schema .«data_units») (c .args .schema .«cell_size») block (c .args .offset) (c .args .len) h (omega arith) (omega arith);
     }

@@ -1,3 +1,4 @@
+-- Where a cell begins fits 128 bits.
 use Prim.Native.Nat.{_^_}
 use native.Mathlib.Omega.{arith}
 use Rattle.std.proofs.shelf.Bits.{mul-le}

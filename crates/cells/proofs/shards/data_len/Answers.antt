@@ -1,3 +1,4 @@
+-- A shard is no longer than its block, so its length fits.
 use Prim.Native.Nat.{_*_, _%_, _≤_}
 use native.Mathlib.Omega.{arith}
 use Rattle.dealing.proofs.Numbers.{row-pos, whole-le}

@@ -1,3 +1,4 @@
+-- A shard is as long as its bytes, and each is one of the block's.
 use Prim.Native.Nat.{_<_}
 use mathlib.Core.Path.{_≡_, sym, _∙_}
 use native.Mathlib.Omega.{arith}

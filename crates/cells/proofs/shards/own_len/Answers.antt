@@ -1,8 +1,9 @@
-use Prim.Native.Nat.{_+_, _*_, _^_}
-use mathlib.Core.Path.{_≡_, sym, ap, _∙_}
+-- What a cell has for its own is what its shard has in that row.
+use Prim.Native.Nat.{_^_}
+use mathlib.Core.Path.{_≡_, sym, _∙_}
 use native.Mathlib.Omega.{arith}
 use Rattle.std.proofs.shelf.Bits.{mul-le}
-use Rattle.dealing.specs.Places.{ownLen, likeShard, cellLen}
+use Rattle.dealing.specs.Places.{ownLen}
 use Rattle.dealing.proofs.Numbers.{ownLen-is, ownLen-none, ownLen-of-shard}
 use Rattle.dealing.proofs.Shards.{length-any-own, cell-of-shard}
 use Rattle.cells.proofs.shards.own_len.Needs as need

@@ -1,3 +1,4 @@
+-- A name that is no codec's has no codec.
 use borrow.Author.Needs.{needs}
 use Rattle.std.proofs.shelf.Equals.{sameBytes-decides}
 use Rattle.policy.proofs.codec.codec_by_name.Needs as need

@@ -1,3 +1,4 @@
+-- A name that is none of the five has no id.
 use borrow.Author.Needs.{needs}
 use Rattle.std.proofs.shelf.Equals.{sameBytes-decides}
 use Rattle.policy.proofs.table.policy_id.Needs as need
