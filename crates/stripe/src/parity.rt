@@ -1,0 +1,74 @@
+// The parity cells of a row.
+ghost use mathlib.Core.Path.{_≡_};
+ghost use Prim.Native.Nat.{ℕ, _+_, _*_, _<_, _≤_};
+ghost use lib.ListN.{length, getD};
+ghost use Rattle.algebra.specs.Matrices.{mixed};
+ghost use Rattle.stripe.specs.Coded.{byte-at};
+ghost use Rattle.stripe.specs.Encoded.{ParityIs, Encoded, RowFollows, OnlyParity};
+use super::fault::StripeFault;
+use codes::Code;
+use codes::Rs;
+use codes::RsCode;
+use codes::Xor;
+use codes::XorCode;
+use field::Field;
+use field::Gf2Field;
+use field::Gf256Field;
+use field::gf2::Gf2;
+use field::gf256::Gf256;
+use matrix::Sides;
+use matrix::act_on_cells;
+use policy::Codec;
+use policy::EcSchema;
+
+// The cells of a row by number: the sources of every parity cell are the first of them.
+const CELLS: [usize; 16] = [0, 1, 2, 3, 4, 5, 6, 7, 8, 9, 10, 11, 12, 13, 14, 15];
+
+// Makes the parity cells by a code, whose matrix goes into the slice lent for it.
+fn encode_by<C: Code>(d: usize, p: usize, s: usize, row: &mut [u8], generator: &mut [C::F])
+    requires code { ⌜ C·Code .permits d p ⌝ ∗ ⌜ 1 ≤ d ⌝ ∗ ⌜ 1 ≤ p ⌝ ∗ ⌜ d + p ≤ 16 ⌝ }
+    requires room { ⌜ 1 ≤ s ⌝ ∗ ⌜ (d + p) * s ≤ length (now row) ⌝ ∗ ⌜ (d + p) * d ≤ length (now generator) ⌝ }
+    ensures { λ _. ⌜ ParityIs d (d + p) s (λ r v. mixed (F·Field .ops) d (C·Code .generator d r) v) (byte-at s (now (row .entry))) (byte-at s (now (row .exit))) ⌝ }
+{
+    let Ok(()) = C::matrix(d, p, generator) else {
+        unreachable()
+    };
+    let sides = Sides {
+        rows: d + p,
+        cols: d,
+    };
+    for r in d..d + p {
+        let Ok(()) = act_on_cells(generator, sides, r, &CELLS, s, r, row) else {
+            unreachable()
+        };
+    }
+}
+
+// Makes the parity cells of the row whose data cells lie first in the buffer, and puts them after those.
+pub fn encode(schema: EcSchema, row: &mut [u8]) -> Result<(), StripeFault>
+    ensures parity_by_the_code { λ r. ⌜ Encoded schema (now (row .entry)) (now (row .exit)) r ⌝ }
+    ensures row_follows_the_code { λ r. ⌜ RowFollows schema (now (row .exit)) r ⌝ }
+    ensures no_other_parity { λ r. ⌜ OnlyParity schema (now (row .exit)) r ⌝ }
+{
+    let d = schema.data_units;
+    let p = schema.parity_units;
+    let s = schema.cell_size;
+    if let Codec::RsLegacy = schema.codec {
+        return Err(StripeFault::Codec);
+    }
+    if row.len() < (d + p) * s {
+        return Err(StripeFault::Short);
+    }
+    match schema.codec {
+        Codec::Rs => {
+            let mut generator = [Gf256 { value: 0 }; 256];
+            encode_by::<Rs>(d, p, s, row, &mut generator);
+        }
+        Codec::Xor => {
+            let mut generator = [Gf2 { bit: false }; 256];
+            encode_by::<Xor>(d, p, s, row, &mut generator);
+        }
+        Codec::RsLegacy => {}
+    }
+    Ok(())
+}
