@@ -12,6 +12,10 @@ use Rattle.matrix.specs.declared.fault.MatrixFault.the-variants.{Sides as BadS
 use Rattle.matrix.specs.declared.fault.Sides.{Sides}
 use Rattle.matrix.specs.Grids.{grid, zeroed}
 
+-- the sides of a square
+abbrev pub squareOf : ℕ → Sides
+squareOf n = record { rows = n; cols = n }
+
 -- a square of side 1 to 16 that the buffers have room for
 pub record Room (s : Sides) (m work out : ℕ) : Type 0 where
   pub square : s .cols ≡ s .rows

@@ -4,7 +4,7 @@ ghost use Prim.Native.Nat.{_+_, _*_, _<_, _≤_};
 ghost use lib.ListN.{length};
 ghost use Rattle.algebra.specs.Elimination.{widened};
 ghost use Rattle.matrix.specs.Grids.{grid, Area, RowIs, RowsTo};
-ghost use Rattle.matrix.specs.Inverted.{Inverted};
+ghost use Rattle.matrix.specs.Inverted.{squareOf, Room, Inverted};
 use super::elimination::eliminate;
 use super::fault::MatrixFault;
 use super::fault::Sides;
@@ -70,6 +70,29 @@ fn lift<F: Field>(out: &mut [F], work: &[F], n: usize)
     }
 }
 
+// The same where the sides are right and the buffers have room.
+fn invert_square<F: Field>(
+    m: &[F],
+    n: usize,
+    work: &mut [F],
+    out: &mut [F],
+) -> Result<(), MatrixFault>
+    requires { ⌜ Room (squareOf n) (length (now m)) (length (now work)) (length (now out)) ⌝ }
+    ensures { λ r. ⌜ Inverted (F·Field .ops) (squareOf n) (now (m .entry)) (now (work .entry)) (now (out .entry)) (now (work .exit)) (now (out .exit)) r ⌝ }
+{
+    let square = area(n, n);
+    let wide = area(n, n + n);
+    lay(work, m, n);
+    if !eliminate(work, n) {
+        clear(work, wide);
+        clear(out, square);
+        return Err(MatrixFault::Singular);
+    }
+    lift(out, work, n);
+    clear(work, wide);
+    Ok(())
+}
+
 // The inverse of m into out. The elimination takes place in work, which needs twice as many entries as m and is left as zeros.
 pub fn invert<F: Field>(
     m: &[F],
@@ -83,18 +106,8 @@ pub fn invert<F: Field>(
     if !is_side(n) || sides.cols != n {
         return Err(MatrixFault::Sides);
     }
-    let square = area(n, n);
-    let wide = area(n, n + n);
-    if m.len() < square || out.len() < square || work.len() < wide {
+    if m.len() < area(n, n) || work.len() < area(n, n + n) || out.len() < area(n, n) {
         return Err(MatrixFault::Sides);
     }
-    lay(work, m, n);
-    if !eliminate(work, n) {
-        clear(work, wide);
-        clear(out, square);
-        return Err(MatrixFault::Singular);
-    }
-    lift(out, work, n);
-    clear(work, wide);
-    Ok(())
+    invert_square(m, n, work, out)
 }

@@ -13,7 +13,7 @@ use Rattle.policy.specs.declared.schema.EcSchema.{EcSchema}
 use Rattle.stripe.specs.declared.fault.StripeFault.{StripeFault}
 use Rattle.stripe.specs.declared.fault.StripeFault.the-variants.{Codec, Short, TooFew, Legacy}
 use Rattle.stripe.specs.There.{flag, lowest-there}
-use Rattle.stripe.specs.Coded.{byte-at, coded, FollowsCode, units, RowRoom}
+use Rattle.stripe.specs.Coded.{byte-at, coded, FollowsCode, units, RowRoom, CellsDetermine}
 
 -- from w to x only missing data cells changed, and from the data cells of x the code makes the lowest d cells that are there
 pub record MadeAgain (d n s : ℕ) (f : ℕ → (ℕ → ℕ) → ℕ) (there : ℕ → Bool) (w x : ℕ → ℕ → ℕ) : Type 0 where
@@ -51,3 +51,8 @@ DealtCells s flags row row′ (Ok made) =
     → ((r : ℕ) → r < units s → flag flags r ≡ true → byte-at (s .«cell_size») row r i ≡ v r)
     → (c : ℕ) → c < s .«data_units» → byte-at (s .«cell_size») row′ c i ≡ v c
 DealtCells s flags row row′ (Err e) = Unit {0}
+
+-- a row that is made again is the only one: any d cells determine it
+abbrev pub RowDetermined : EcSchema → Result ℕ StripeFault → Type 0
+RowDetermined s (Ok made) = CellsDetermine (s .codec) (s .«data_units») (units s)
+RowDetermined s (Err e) = Unit {0}

@@ -6,13 +6,14 @@ ghost use lib.ListN.{length, getD};
 ghost use Rattle.algebra.specs.Matrices.{mixed};
 ghost use Rattle.matrix.specs.Grids.{grid};
 ghost use Rattle.policy.specs.declared.codec.Codec.the-variants.{Rs as RsCodec, Xor as XorCodec};
-ghost use Rattle.stripe.specs.Coded.{byte-at, coded, CellsDetermine, units, RowRoom};
-ghost use Rattle.stripe.specs.Recovered.{Filled, Chosen, MadeAgain, Recovered, DealtCells};
+ghost use Rattle.stripe.specs.Coded.{byte-at, coded, units, RowRoom};
+ghost use Rattle.stripe.specs.Recovered.{Filled, Chosen, MadeAgain, Recovered, DealtCells, RowDetermined};
 ghost use Rattle.stripe.specs.There.{flag};
 use super::fault::StripeFault;
 use super::select::select_rows;
 use super::there::count_there;
 use super::there::lowest;
+use super::there::row_bytes;
 use codes::Code;
 use codes::Rs;
 use codes::RsCode;
@@ -119,19 +120,16 @@ fn recover_xor(schema: EcSchema, there: &[bool; 16], chosen: &[usize; 16], row: 
     );
 }
 
-// Makes the data cells of a row again that are not there, from the lowest that are, and tells how many they were.
-pub fn recover(schema: EcSchema, there: &[bool; 16], row: &mut [u8]) -> Result<usize, StripeFault>
-    ensures from_the_lowest_there { λ r. ⌜ Recovered schema (now (there .entry)) (now (row .entry)) (now (row .exit)) r ⌝ }
-    ensures the_cells_dealt { λ r. ⌜ DealtCells schema (now (there .entry)) (now (row .entry)) (now (row .exit)) r ⌝ }
-    ensures cells_determine_the_row { λ _. ⌜ CellsDetermine (schema .codec) (schema .«data_units») (units schema) ⌝ }
+// The same where the buffer has room for the row.
+fn recover_row(schema: EcSchema, there: &[bool; 16], row: &mut [u8]) -> Result<usize, StripeFault>
+    requires { ⌜ RowRoom schema (now row) ⌝ }
+    ensures recovered { λ r. ⌜ Recovered schema (now (there .entry)) (now (row .entry)) (now (row .exit)) r ⌝ }
+    ensures dealt { λ r. ⌜ DealtCells schema (now (there .entry)) (now (row .entry)) (now (row .exit)) r ⌝ }
+    ensures determines { λ r. ⌜ RowDetermined schema r ⌝ }
 {
     let d = schema.data_units;
-    let n = d + schema.parity_units;
-    if row.len() < n * schema.cell_size {
-        return Err(StripeFault::Short);
-    }
     let mut chosen = [0usize; 16];
-    let found = lowest(there, n, &mut chosen);
+    let found = lowest(there, d + schema.parity_units, &mut chosen);
     if found < d {
         return Err(StripeFault::TooFew { cells: found });
     }
@@ -145,4 +143,16 @@ pub fn recover(schema: EcSchema, there: &[bool; 16], row: &mut [u8]) -> Result<u
         Codec::Xor => recover_xor(schema, there, &chosen, row),
     }
     Ok(missing)
+}
+
+// Makes the data cells of a row again that are not there, from the lowest that are, and tells how many they were.
+pub fn recover(schema: EcSchema, there: &[bool; 16], row: &mut [u8]) -> Result<usize, StripeFault>
+    ensures from_the_lowest_there { λ r. ⌜ Recovered schema (now (there .entry)) (now (row .entry)) (now (row .exit)) r ⌝ }
+    ensures the_cells_dealt { λ r. ⌜ DealtCells schema (now (there .entry)) (now (row .entry)) (now (row .exit)) r ⌝ }
+    ensures cells_determine_the_row { λ r. ⌜ RowDetermined schema r ⌝ }
+{
+    if row.len() < row_bytes(schema) {
+        return Err(StripeFault::Short);
+    }
+    recover_row(schema, there, row)
 }

@@ -3,9 +3,12 @@ ghost use mathlib.Core.Path.{_≡_};
 ghost use Prim.Native.Nat.{ℕ, _+_, _*_, _<_, _≤_};
 ghost use lib.ListN.{length, getD};
 ghost use Rattle.algebra.specs.Matrices.{mixed};
-ghost use Rattle.stripe.specs.Coded.{byte-at};
+ghost use Rattle.policy.specs.declared.codec.Codec.the-variants.{RsLegacy};
+ghost use Rattle.std.specs.declared.result.Result.the-variants.{Ok};
+ghost use Rattle.stripe.specs.Coded.{byte-at, coded, units, RowRoom};
 ghost use Rattle.stripe.specs.Encoded.{ParityIs, Encoded, RowFollows, OnlyParity};
 use super::fault::StripeFault;
+use super::there::row_bytes;
 use codes::Code;
 use codes::Rs;
 use codes::RsCode;
@@ -44,21 +47,16 @@ fn encode_by<C: Code>(d: usize, p: usize, s: usize, row: &mut [u8], generator: &
     }
 }
 
-// Makes the parity cells of the row whose data cells lie first in the buffer, and puts them after those.
-pub fn encode(schema: EcSchema, row: &mut [u8]) -> Result<(), StripeFault>
-    ensures parity_by_the_code { λ r. ⌜ Encoded schema (now (row .entry)) (now (row .exit)) r ⌝ }
-    ensures row_follows_the_code { λ r. ⌜ RowFollows schema (now (row .exit)) r ⌝ }
-    ensures no_other_parity { λ r. ⌜ OnlyParity schema (now (row .exit)) r ⌝ }
+// Makes the parity cells of a row that the buffer has room for, by a code that is known.
+fn encode_row(schema: EcSchema, row: &mut [u8])
+    requires { ⌜ (schema .codec ≡ RsLegacy → ⊥) ⌝ ∗ ⌜ RowRoom schema (now row) ⌝ }
+    ensures parity { λ _. ⌜ ParityIs (schema .«data_units») (units schema) (schema .«cell_size») (coded (schema .codec) (schema .«data_units»)) (byte-at (schema .«cell_size») (now (row .entry))) (byte-at (schema .«cell_size») (now (row .exit))) ⌝ }
+    ensures follows { λ _. ⌜ RowFollows schema (now (row .exit)) (Ok tt) ⌝ }
+    ensures only { λ _. ⌜ OnlyParity schema (now (row .exit)) (Ok tt) ⌝ }
 {
     let d = schema.data_units;
     let p = schema.parity_units;
     let s = schema.cell_size;
-    if let Codec::RsLegacy = schema.codec {
-        return Err(StripeFault::Codec);
-    }
-    if row.len() < (d + p) * s {
-        return Err(StripeFault::Short);
-    }
     match schema.codec {
         Codec::Rs => {
             let mut generator = [Gf256 { value: 0 }; 256];
@@ -68,7 +66,22 @@ pub fn encode(schema: EcSchema, row: &mut [u8]) -> Result<(), StripeFault>
             let mut generator = [Gf2 { bit: false }; 256];
             encode_by::<Xor>(d, p, s, row, &mut generator);
         }
-        Codec::RsLegacy => {}
+        Codec::RsLegacy => unreachable(),
     }
+}
+
+// Makes the parity cells of the row whose data cells lie first in the buffer, and puts them after those.
+pub fn encode(schema: EcSchema, row: &mut [u8]) -> Result<(), StripeFault>
+    ensures parity_by_the_code { λ r. ⌜ Encoded schema (now (row .entry)) (now (row .exit)) r ⌝ }
+    ensures row_follows_the_code { λ r. ⌜ RowFollows schema (now (row .exit)) r ⌝ }
+    ensures no_other_parity { λ r. ⌜ OnlyParity schema (now (row .exit)) r ⌝ }
+{
+    if let Codec::RsLegacy = schema.codec {
+        return Err(StripeFault::Codec);
+    }
+    if row.len() < row_bytes(schema) {
+        return Err(StripeFault::Short);
+    }
+    encode_row(schema, row);
     Ok(())
 }

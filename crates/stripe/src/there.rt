@@ -1,9 +1,18 @@
-// Which cells of a row are there.
+// How large a row is, and which of its cells are there.
 ghost use mathlib.Core.Path.{_≡_};
-ghost use Prim.Native.Nat.{ℕ, _<_, _≤_};
+ghost use Prim.Native.Nat.{ℕ, _*_, _<_, _≤_};
 ghost use lib.ListN.{getD};
 ghost use Rattle.algebra.specs.Sums.{count};
+ghost use Rattle.stripe.specs.Coded.{units};
 ghost use Rattle.stripe.specs.There.{flag, there-below};
+use policy::EcSchema;
+
+// How many bytes the cells of a row have.
+pub(crate) fn row_bytes(schema: EcSchema) -> usize
+    ensures { λ r. ⌜ r ≡ units schema * schema .«cell_size» ⌝ }
+{
+    (schema.data_units + schema.parity_units) * schema.cell_size
+}
 
 // How many of the first n cells are there.
 pub(crate) fn count_there(there: &[bool; 16], n: usize) -> usize

@@ -12,20 +12,13 @@ use Rattle.stripe.specs.Recovered.{MadeAgain}
 use Rattle.stripe.specs.There.{flag}
 use Rattle.stripe.proofs.Cells.{count-le}
 use Rattle.stripe.proofs.Codecs.{none-missing, dealt, cells-determine}
-use Rattle.stripe.proofs.missing.recover.Needs as need
+use Rattle.stripe.proofs.missing.recover_row.Needs as need
 
 determine : (s : EcSchema) → CellsDetermine (s .codec) (s .«data_units») (units s)
 determine s = cells-determine (s .codec) (s .«data_units») (s .«parity_units») (s .narrow) (s .«xor_alone»)
 
-pub returns-then-row-n : need.returns-then-row-n
-returns-then-row-n c = record { from-the-lowest-there = (λ h. omega arith, refl); the-cells-dealt = tt; cells-determine-the-row = determine (c .args .schema) }
-
 pub returns-then-found-d : need.returns-then-found-d
-returns-then-found-d c = record {
-  from-the-lowest-there = (c .if-row-n .left, c .lowest-found .ensures .found, c .if-found-d .taken, refl);
-  the-cells-dealt = tt;
-  cells-determine-the-row = determine (c .args .schema);
-}
+returns-then-found-d c = record { recovered = (c .pre, c .lowest-found .ensures .found, c .if-found-d .taken, refl); dealt = tt; determines = tt }
 
 pub sub-missing : need.sub-missing
 sub-missing c = let h = count-le (flag (c .args .there .now)) (c .args .schema .«data_units») in omega arith
@@ -41,9 +34,9 @@ returns-then-missing-eq0 c =
     let bytes : (r i : ℕ) → w r i < 256 = λ r i. c .typed .row (r * s .«cell_size» + i) .fits in
     let t = none-missing (s .codec) (s .«data_units») (units s) (s .«cell_size») there w (omega arith) bytes all in
     record {
-      from-the-lowest-there = (c .if-row-n .left, enough, omega arith, λ e. refl, t);
-      the-cells-dealt = dealt (s .codec) (s .«data_units») (s .«parity_units») (s .«cell_size») there w w (s .narrow) (s .«xor_alone») (λ e. all) enough bytes t;
-      cells-determine-the-row = determine s;
+      recovered = (c .pre, enough, omega arith, λ e. refl, t);
+      dealt = dealt (s .codec) (s .«data_units») (s .«parity_units») (s .«cell_size») there w w (s .narrow) (s .«xor_alone») (λ e. all) enough bytes t;
+      determines = determine s;
     }
 
 pub returns-in-Rs : need.returns-in-Rs
@@ -58,9 +51,9 @@ returns-in-Rs c =
     let t : MadeAgain (s .«data_units») (units s) (s .«cell_size») (coded (s .codec) (s .«data_units»)) there w x =
     subst (λ (k : Codec). MadeAgain (s .«data_units») (units s) (s .«cell_size») (coded k (s .«data_units»)) there w x) (sym (c .in-Rs .is)) (c .recover-rs .ensures) in
     record {
-      from-the-lowest-there = (c .if-row-n .left, enough, omega arith, λ e. absurd (known e), t);
-      the-cells-dealt = dealt (s .codec) (s .«data_units») (s .«parity_units») (s .«cell_size») there w x (s .narrow) (s .«xor_alone») (λ e. absurd (known e)) enough (λ r i. c .typed .row (r * s .«cell_size» + i) .fits) t;
-      cells-determine-the-row = determine s;
+      recovered = (c .pre, enough, omega arith, λ e. absurd (known e), t);
+      dealt = dealt (s .codec) (s .«data_units») (s .«parity_units») (s .«cell_size») there w x (s .narrow) (s .«xor_alone») (λ e. absurd (known e)) enough (λ r i. c .typed .row (r * s .«cell_size» + i) .fits) t;
+      determines = determine s;
     }
   where
     other : Rs ≡ RsLegacy → ⊥
@@ -78,9 +71,9 @@ returns-in-Xor c =
     let t : MadeAgain (s .«data_units») (units s) (s .«cell_size») (coded (s .codec) (s .«data_units»)) there w x =
     subst (λ (k : Codec). MadeAgain (s .«data_units») (units s) (s .«cell_size») (coded k (s .«data_units»)) there w x) (sym (c .in-Xor .is)) (c .recover-xor .ensures) in
     record {
-      from-the-lowest-there = (c .if-row-n .left, enough, omega arith, λ e. absurd (known e), t);
-      the-cells-dealt = dealt (s .codec) (s .«data_units») (s .«parity_units») (s .«cell_size») there w x (s .narrow) (s .«xor_alone») (λ e. absurd (known e)) enough (λ r i. c .typed .row (r * s .«cell_size» + i) .fits) t;
-      cells-determine-the-row = determine s;
+      recovered = (c .pre, enough, omega arith, λ e. absurd (known e), t);
+      dealt = dealt (s .codec) (s .«data_units») (s .«parity_units») (s .«cell_size») there w x (s .narrow) (s .«xor_alone») (λ e. absurd (known e)) enough (λ r i. c .typed .row (r * s .«cell_size» + i) .fits) t;
+      determines = determine s;
     }
   where
     other : Xor ≡ RsLegacy → ⊥
