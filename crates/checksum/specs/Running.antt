@@ -11,9 +11,9 @@ use Rattle.checksum.specs.Sums.{generator, registerOf}
 abbrev pub runningOf : Checksum → List ℕ → Running
 runningOf k bs = record { kind = k; register = registerOf k bs }
 
--- the same after more bytes
-abbrev pub after : Running → List ℕ → Running
-after s bs = record { kind = s .kind; register = fed (generator (s .kind)) (s .register) bs }
+-- the same once it has taken more bytes in
+abbrev pub takenIn : Running → List ℕ → Running
+takenIn s bs = record { kind = s .kind; register = fed (generator (s .kind)) (s .register) bs }
 
 -- the checksum that it comes to
 abbrev pub finished : Running → ℕ

@@ -6,3 +6,6 @@ mod tables;
 
 pub use kind::Checksum;
 pub use running::Running;
+
+#[cfg(test)]
+mod tests;

@@ -4,7 +4,8 @@ ghost use mathlib.Core.Path.{_≡_};
 ghost use Prim.Native.Nat.{ℕ};
 ghost use lib.Bits.{bitXor};
 ghost use Rattle.crcmath.specs.Registers.{steps, fed};
-ghost use Rattle.checksum.specs.Sums.{generator, registerOf, sumOf};
+ghost use Rattle.crcmath.specs.Divided.{Divides};
+ghost use Rattle.checksum.specs.Sums.{polynomial, generator, registerOf, sumOf};
 use crate::kind::Checksum;
 use crate::tables::entry;
 
@@ -32,6 +33,7 @@ pub(crate) fn feed(kind: Checksum, start: u32, bytes: &[u8]) -> u32
 pub(crate) fn close(kind: Checksum, register: u32) -> u32
     ensures turns_the_register { λ r. ⌜ r ≡ bitXor register 0xFFFFFFFF ⌝ }
     ensures sums_the_bytes { λ r. ⌜ ((k : Checksum) (xs : List ℕ) → kind ≡ k → register ≡ registerOf k xs → r ≡ sumOf k xs) ⌝ }
+    ensures leaves_the_remainder { λ r. ⌜ ((k : Checksum) (xs : List ℕ) → kind ≡ k → register ≡ registerOf k xs → Divides (polynomial k) xs r) ⌝ }
 {
     register ^ 0xFFFF_FFFF
 }

@@ -1,2 +1,4 @@
 pub mod Linear
 pub mod Bytes
+pub mod Division
+pub mod Published
