@@ -2,7 +2,7 @@
 use Prim.Native.Nat.{ℕ}
 use mathlib.Core.List.{List}
 use lib.Bits.{bitXor}
-use Rattle.crcmath.specs.Registers.{fed}
+use Rattle.crcmath.specs.Registers.{ones, fed}
 use Rattle.checksum.specs.declared.kind.Checksum.{Checksum}
 use Rattle.checksum.specs.declared.running.Running.{Running}
 use Rattle.checksum.specs.Sums.{generator, registerOf}
@@ -17,4 +17,4 @@ takenIn s bs = record { kind = s .kind; register = fed (generator (s .kind)) (s 
 
 -- the checksum that it comes to
 abbrev pub finished : Running → ℕ
-finished s = bitXor (s .register) 0xFFFFFFFF
+finished s = bitXor (s .register) ones

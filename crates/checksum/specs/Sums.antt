@@ -1,7 +1,7 @@
 -- The checksum of bytes, for each kind. Assumes nothing.
 use Prim.Native.Nat.{ℕ}
 use mathlib.Core.List.{List}
-use Rattle.crcmath.specs.Registers.{ieee, castagnoli, reversed, fed, crcOf}
+use Rattle.crcmath.specs.Registers.{ieee, castagnoli, ones, reversed, fed, crcOf}
 use Rattle.checksum.specs.declared.kind.Checksum.{Checksum}
 use Rattle.checksum.specs.declared.kind.Checksum.the-variants.{Crc32, Crc32c}
 
@@ -14,9 +14,9 @@ polynomial Crc32c = castagnoli
 abbrev pub generator : Checksum → ℕ
 generator kind = reversed 32 (polynomial kind)
 
--- the register after bytes, from its beginning with 32 ones
+-- the register after bytes, from its beginning on
 abbrev pub registerOf : Checksum → List ℕ → ℕ
-registerOf kind bs = fed (generator kind) 0xFFFFFFFF bs
+registerOf kind bs = fed (generator kind) ones bs
 
 -- the checksum of bytes
 abbrev pub sumOf : Checksum → List ℕ → ℕ

@@ -3,11 +3,14 @@ ghost use mathlib.Core.List.{List, _++_};
 ghost use mathlib.Core.Path.{_≡_};
 ghost use Prim.Native.Nat.{ℕ};
 ghost use lib.Bits.{bitXor};
-ghost use Rattle.crcmath.specs.Registers.{steps, fed};
+ghost use Rattle.crcmath.specs.Registers.{ones, steps, fed};
 ghost use Rattle.crcmath.specs.Divided.{Divides};
 ghost use Rattle.checksum.specs.Sums.{polynomial, generator, registerOf, sumOf};
 use crate::kind::Checksum;
 use crate::tables::entry;
+
+// All bits set.
+pub(crate) const ONES: u32 = 0xFFFF_FFFF;
 
 // The register after one more byte.
 pub(crate) fn feed_byte(kind: Checksum, register: u32, byte: u8) -> u32
@@ -30,10 +33,10 @@ pub(crate) fn feed(kind: Checksum, start: u32, bytes: &[u8]) -> u32
 }
 
 // The checksum that a register comes to: all its bits are turned.
-pub(crate) fn close(kind: Checksum, register: u32) -> u32
-    ensures turns_the_register { λ r. ⌜ r ≡ bitXor register 0xFFFFFFFF ⌝ }
-    ensures sums_the_bytes { λ r. ⌜ ((k : Checksum) (xs : List ℕ) → kind ≡ k → register ≡ registerOf k xs → r ≡ sumOf k xs) ⌝ }
-    ensures leaves_the_remainder { λ r. ⌜ ((k : Checksum) (xs : List ℕ) → kind ≡ k → register ≡ registerOf k xs → Divides (polynomial k) xs r) ⌝ }
+pub(crate) fn close(register: u32) -> u32
+    ensures turns_the_register { λ r. ⌜ r ≡ bitXor register ones ⌝ }
+    ensures sums_the_bytes { λ r. ⌜ ((k : Checksum) (xs : List ℕ) → register ≡ registerOf k xs → r ≡ sumOf k xs) ⌝ }
+    ensures leaves_the_remainder { λ r. ⌜ ((k : Checksum) (xs : List ℕ) → register ≡ registerOf k xs → Divides (polynomial k) xs r) ⌝ }
 {
-    register ^ 0xFFFF_FFFF
+    register ^ ONES
 }

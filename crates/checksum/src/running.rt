@@ -6,6 +6,7 @@ ghost use Rattle.crcmath.specs.Divided.{Divides};
 ghost use Rattle.checksum.specs.Sums.{polynomial, sumOf};
 ghost use Rattle.checksum.specs.Running.{runningOf, takenIn, finished};
 use crate::kind::Checksum;
+use crate::register::ONES;
 use crate::register::close;
 use crate::register::feed;
 
@@ -16,13 +17,13 @@ pub struct Running {
 }
 
 impl Running {
-    // No bytes yet.
+    // A checksum of no bytes yet.
     pub fn new(kind: Checksum) -> Running
         ensures { λ r. ⌜ r ≡ runningOf kind [] ⌝ }
     {
         Running {
             kind,
-            register: 0xFFFF_FFFF,
+            register: ONES,
         }
     }
 
@@ -40,6 +41,6 @@ impl Running {
         ensures sums_the_bytes { λ r. ⌜ ((k : Checksum) (xs : List ℕ) → now (self .entry) ≡ runningOf k xs → r ≡ sumOf k xs) ⌝ }
         ensures leaves_the_remainder { λ r. ⌜ ((k : Checksum) (xs : List ℕ) → now (self .entry) ≡ runningOf k xs → Divides (polynomial k) xs r) ⌝ }
     {
-        close(self.kind, self.register)
+        close(self.register)
     }
 }

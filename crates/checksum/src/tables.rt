@@ -1,10 +1,11 @@
-// What becomes of each byte in a register after its eight bits have left, for each kind of checksum.
+// What each byte of a register becomes when its eight bits leave, for each kind of checksum.
 ghost use mathlib.Core.Path.{_≡_};
 ghost use Rattle.checksum.specs.Sums.{generator};
 ghost use Rattle.crcmath.specs.Registers.{steps};
 use crate::kind::Checksum;
 
-pub(crate) static CRC32: [u32; 256] = [
+// By the polynomial of IEEE 802.3.
+static CRC32: [u32; 256] = [
     0x0000_0000,
     0x7707_3096,
     0xEE0E_612C,
@@ -263,7 +264,8 @@ pub(crate) static CRC32: [u32; 256] = [
     0x2D02_EF8D,
 ];
 
-pub(crate) static CRC32C: [u32; 256] = [
+// By the polynomial of RFC 3720.
+static CRC32C: [u32; 256] = [
     0x0000_0000,
     0xF26B_8303,
     0xE13B_70F7,
@@ -522,7 +524,7 @@ pub(crate) static CRC32C: [u32; 256] = [
     0xAD7D_5351,
 ];
 
-// What a byte becomes after its eight bits have left.
+// What a byte becomes when its eight bits leave.
 pub(crate) fn entry(kind: Checksum, byte: u8) -> u32
     ensures { λ r. ⌜ r ≡ steps (generator kind) 8 byte ⌝ }
 {

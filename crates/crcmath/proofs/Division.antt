@@ -11,7 +11,7 @@ use lib.Bits.{bitXor, xor-zero-r, xor-self, xor-comm, xor-assoc, xor-block, xor-
 use lib.ListN.{length}
 use Rattle.std.proofs.shelf.Bits.{pow-pos, shr-shr}
 use Rattle.gfmath.specs.Polynomials.{bit, carryless}
-use Rattle.crcmath.specs.Registers.{step, steps, fed, reversed, crcOf}
+use Rattle.crcmath.specs.Registers.{ones, reversed, step, steps, fed, crcOf}
 use Rattle.crcmath.specs.Divided.{message, Divides}
 use Rattle.crcmath.proofs.Linear.{step-xor, steps-xor, steps-shifted}
 
@@ -150,16 +150,16 @@ module _ (p : ℕ) (h : p < 2 ^ 32) where
   unfolding crcOf g
   crc-divides bs l =
       let n = 8 * length bs in
-      let start = bitXor (message bs) 0xFFFFFFFF in
-      let left : steps g n start ≡ bitXor (crcOf p bs) 0xFFFFFFFF =
-      ap (steps g n) (xor-comm (message bs) 0xFFFFFFFF) ∙ sym (fed-message g 0xFFFFFFFF bs) ∙ sym (xor-twice (fed g 0xFFFFFFFF bs) 0xFFFFFFFF)
+      let start = bitXor (message bs) ones in
+      let left : steps g n start ≡ bitXor (crcOf p bs) ones =
+      ap (steps g n) (xor-comm (message bs) ones) ∙ sym (fed-message g ones bs) ∙ sym (xor-twice (fed g ones bs) ones)
       in record {
         quotient = quotientOf g n start;
         small = quotient-small g n start;
         divided =
             quotient-divides g n start
             ∙ ap₂ (λ (f r : ℕ). bitXor (carryless n f (quotientOf g n start)) (r * 2 ^ n)) (sym (whole-is 32 p h)) left;
-        short = xor-lt 32 (crcOf p bs) 0xFFFFFFFF l (lit< tt);
+        short = xor-lt 32 (crcOf p bs) ones l (lit< tt);
       }
 
   pub divides-only : (bs : List ℕ) (sum : ℕ) → Divides p bs sum → sum ≡ crcOf p bs
@@ -167,11 +167,11 @@ module _ (p : ℕ) (h : p < 2 ^ 32) where
   divides-only bs sum d =
       let n = 8 * length bs in
       let f = carryless n (odd g) (d .quotient) in
-      let left = bitXor sum 0xFFFFFFFF in
-      sym (xor-twice sum 0xFFFFFFFF)
-      ∙ ap (λ (r : ℕ). bitXor r 0xFFFFFFFF)
+      let left = bitXor sum ones in
+      sym (xor-twice sum ones)
+      ∙ ap (λ (r : ℕ). bitXor r ones)
       (sym (steps-shifted g n left) ∙ ap (λ (r : ℕ). bitXor r (steps g n (left * 2 ^ n))) (sym (multiple-leaves g n (d .quotient)))
       ∙ sym (steps-xor g n f (left * 2 ^ n))
       ∙ ap (steps g n)
-      (sym (d .divided ∙ ap (λ (f : ℕ). bitXor (carryless n f (d .quotient)) (left * 2 ^ n)) (whole-is 32 p h)) ∙ xor-comm (message bs) 0xFFFFFFFF)
-      ∙ sym (fed-message g 0xFFFFFFFF bs))
+      (sym (d .divided ∙ ap (λ (f : ℕ). bitXor (carryless n f (d .quotient)) (left * 2 ^ n)) (whole-is 32 p h)) ∙ xor-comm (message bs) ones)
+      ∙ sym (fed-message g ones bs))

@@ -2,17 +2,13 @@
 use mathlib.Core.Path.{_≡_, refl, sym, ap, ap₂, _∙_}
 use mathlib.Core.Bool.{cond}
 use mathlib.Core.List.{List, [], _∷_, _++_}
-use Prim.Native.Nat.{ℕ, zero, suc, _+_, _*_, _/_, _%_, _^_, _<_, _≤_}
-use native.Mathlib.Nat.{pow-suc}
+use Prim.Native.Nat.{ℕ, zero, suc, _+_, _*_, _/_, _%_, _^_, _<_}
 use native.Mathlib.Omega.{arith}
-use lib.Dec.{eqb, lit<}
-use lib.Bits.{bitXor, xor-lt, xor-zero-r, xor-self, xor-mod, xor-shr, xor-shifted, shifted-half, shifted-even}
-use lib.ListN.{length}
-use Rattle.std.specs.shelf.Lists.{All}
-use Rattle.std.proofs.shelf.Tests.{cond-both}
+use lib.Dec.{eqb}
+use lib.Bits.{bitXor, xor-zero-r, xor-self, xor-mod, xor-shr, xor-shifted, shifted-half, shifted-even}
 use Rattle.std.proofs.shelf.Bits.{shr-split, mod-below, pow-pos}
 use Rattle.gfmath.proofs.Linear.{xor-four}
-use Rattle.crcmath.specs.Registers.{reversed, step, steps, fed, crcOf}
+use Rattle.crcmath.specs.Registers.{step, steps, fed}
 
 -- what two lowest bits take away
 taken : (p q g : ℕ) → p < 2 → q < 2 → cond (eqb (bitXor p q) 1) g 0 ≡ bitXor (cond (eqb p 1) g 0) (cond (eqb q 1) g 0)
@@ -60,32 +56,3 @@ steps-split g n r =
 pub fed-append : (g r : ℕ) (xs ys : List ℕ) → fed g r (xs ++ ys) ≡ fed g (fed g r xs) ys
 fed-append g r [] ys = refl
 fed-append g r (x ∷ xs) ys = fed-append g (steps g 8 (bitXor r x)) xs ys
-
--- ---- a register has 32 bits
-step-fits : (g r : ℕ) → g < 2 ^ 32 → r < 2 ^ 32 → step g r < 2 ^ 32
-unfolding step
-step-fits g r hg hr = xor-lt 32 (r / 2) (cond (eqb (r % 2) 1) g 0) (omega arith) (cond-both (eqb (r % 2) 1) g 0 (λ n. n < 2 ^ 32) (λ _. hg) (λ _. lit< tt))
-
-steps-fit : (g n r : ℕ) → g < 2 ^ 32 → r < 2 ^ 32 → steps g n r < 2 ^ 32
-unfolding steps
-steps-fit g zero r hg hr = hr
-steps-fit g (suc n) r hg hr = steps-fit g n (step g r) hg (step-fits g r hg hr)
-
-pub fed-fits : (g r : ℕ) (bs : List ℕ) → g < 2 ^ 32 → r < 2 ^ 32 → All (λ b. b < 256) bs → fed g r bs < 2 ^ 32
-fed-fits g r [] hg hr all = hr
-fed-fits g r (b ∷ bs) hg hr all =
-    fed-fits g (steps g 8 (bitXor r b)) bs hg (steps-fit g 8 (bitXor r b) hg (xor-lt 32 r b hr (omega (arith, all .0)))) (all .1)
-
-reversed-fits : (n p : ℕ) → reversed n p < 2 ^ n
-unfolding reversed
-reversed-fits zero p = lit< tt
-reversed-fits (suc n) p = omega (arith, reversed-fits n (p / 2), pow-suc 2 n, bound (p % 2) (omega arith))
-  where
-    bound : (d : ℕ) → d < 2 → d * 2 ^ n ≤ 2 ^ n
-    bound zero l = omega arith
-    bound (suc zero) l = omega arith
-    bound (suc (suc d)) l = omega arith
-
-pub crc-fits : (p : ℕ) (bs : List ℕ) → All (λ b. b < 256) bs → crcOf p bs < 2 ^ 32
-unfolding crcOf
-crc-fits p bs all = xor-lt 32 (fed (reversed 32 p) 0xFFFFFFFF bs) 0xFFFFFFFF (fed-fits (reversed 32 p) 0xFFFFFFFF bs (reversed-fits 32 p) (lit< tt) all) (lit< tt)

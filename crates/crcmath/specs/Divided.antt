@@ -6,7 +6,7 @@ use mathlib.Core.List.{List, [], _∷_}
 use lib.Bits.{bitXor}
 use lib.ListN.{length}
 use Rattle.gfmath.specs.Polynomials.{carryless}
-use Rattle.crcmath.specs.Registers.{reversed}
+use Rattle.crcmath.specs.Registers.{ones, reversed}
 
 -- the bits of a message, those of its first byte lowest
 abbrev pub message : List ℕ → ℕ
@@ -26,4 +26,4 @@ pub record Leaves (f n m r : ℕ) : Type 0 where
 
 -- the checksum of a message: 32 zeros go after it, its first 32 bits are turned, and what division leaves is turned
 abbrev pub Divides : ℕ → List ℕ → ℕ → Type 0
-Divides p bs sum = Leaves (whole p) (8 * length bs) (bitXor (message bs) 0xFFFFFFFF) (bitXor sum 0xFFFFFFFF)
+Divides p bs sum = Leaves (whole p) (8 * length bs) (bitXor (message bs) ones) (bitXor sum ones)

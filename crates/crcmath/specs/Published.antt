@@ -1,5 +1,4 @@
 -- What the documents and the catalogues of checksums publish. Assumes nothing.
-use Prim.Native.Nat.{ℕ}
 use mathlib.Core.Path.{_≡_}
 use mathlib.Core.List.{reverse}
 use lib.Chars.{codes}

@@ -14,6 +14,10 @@ ieee = 0x04C11DB7
 abbrev pub castagnoli : ℕ
 castagnoli = 0x1EDC6F41
 
+-- 32 bits that are set
+abbrev pub ones : ℕ
+ones = 0xFFFFFFFF
+
 -- the n lowest bits of a number in reverse order
 unfoldable pub reversed : ℕ → ℕ → ℕ
 reversed zero p = 0
@@ -33,6 +37,6 @@ abbrev pub fed : ℕ → ℕ → List ℕ → ℕ
 fed g r [] = r
 fed g r (b ∷ bs) = fed g (steps g 8 (bitXor r b)) bs
 
--- the checksum of bytes by a polynomial: the register begins with 32 ones, and all its bits are turned at the end
+-- the checksum of bytes by a polynomial: all bits of the register are set at the beginning and turned at the end
 unfoldable pub crcOf : ℕ → List ℕ → ℕ
-crcOf p bs = bitXor (fed (reversed 32 p) 0xFFFFFFFF bs) 0xFFFFFFFF
+crcOf p bs = bitXor (fed (reversed 32 p) ones bs) ones

@@ -1,14 +1,13 @@
 -- Each turn takes one byte off the list that is left, and at the end none is left.
 use mathlib.Core.Path.{_≡_, sym, ap, ap₂, _∙_}
-use mathlib.Core.List.{List, _++_}
 use Prim.Native.Nat.{ℕ, _+_, _<_}
 use native.Mathlib.Omega.{arith}
 use lib.ListN.{length, drop}
 use Rattle.std.proofs.shelf.Lists.{at-drop-more, at-drop-all}
-use Rattle.crcmath.specs.Registers.{fed}
+use Rattle.crcmath.specs.Registers.{ones, fed}
 use Rattle.crcmath.proofs.Linear.{fed-append}
 use Rattle.checksum.specs.declared.kind.Checksum.{Checksum}
-use Rattle.checksum.specs.Sums.{generator, registerOf}
+use Rattle.checksum.specs.Sums.{generator}
 use Rattle.checksum.proofs.register.feed.Needs as need
 
 pub loop-byte-again : need.loop-byte-again
@@ -30,5 +29,5 @@ returns c =
       takes-the-bytes-in = all;
       joins-the-bytes = λ k xs same e.
           all ∙ ap₂ (λ (k : Checksum) (r : ℕ). fed (generator k) r (c .args .bytes .now)) same e
-          ∙ sym (fed-append (generator k) 0xFFFFFFFF xs (c .args .bytes .now));
+          ∙ sym (fed-append (generator k) ones xs (c .args .bytes .now));
     }

@@ -1,6 +1,6 @@
 -- The low byte of the register with the new byte goes by the table, the other bits move down.
-use mathlib.Core.Path.{_≡_, sym, ap, _∙_}
-use Prim.Native.Nat.{ℕ, _/_}
+use mathlib.Core.Path.{sym, ap, _∙_}
+use Prim.Native.Nat.{_/_}
 use native.Mathlib.Omega.{arith}
 use lib.Bits.{bitXor}
 use Rattle.crcmath.proofs.Bytes.{byte-fed}

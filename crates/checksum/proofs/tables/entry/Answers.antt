@@ -1,6 +1,6 @@
 -- Each table holds what each byte becomes, as computed entry by entry.
-use mathlib.Core.Path.{_≡_, sym, ap, _∙_}
-use Prim.Native.Nat.{ℕ, _<_}
+use mathlib.Core.Path.{sym, ap, _∙_}
+use Prim.Native.Nat.{_<_}
 use native.Mathlib.Omega.{arith}
 use Rattle.crcmath.specs.Registers.{ieee, castagnoli, reversed, step, steps}
 use Rattle.crcmath.proofs.Bytes.{tableFor, entry-is}
