@@ -1,0 +1,1 @@
+// Cyclic redundancy checks as mathematics: definitions in specs/, their laws in proofs/, and no code.
