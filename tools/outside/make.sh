@@ -57,7 +57,7 @@ python3 model.py parity "$scratch/parity.txt"
   echo "# xor D CELL*D => PARITY           xor_gen"
   awk '{ shape = $1 == "xor" ? "xor " $2 : $2 "+" $3 } NR <= 24 || !(shape in seen) { print } { seen[shape] }' \
     "$scratch/parity.txt"
-} > parity-isal.txt
+} > ../../crates/replay/data/parity-isal.txt
 
 # The crate's answers
 if [ -n "${CRATE_RELEASE:-}" ] && [ -n "${CRATE_CHECKED:-}" ]; then

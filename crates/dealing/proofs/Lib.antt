@@ -3,4 +3,3 @@ pub mod Padding
 pub mod Joining
 pub mod Rows
 pub mod Shards
-pub mod Published

@@ -1,0 +1,62 @@
+// Why the program refuses, by number and in words.
+use policy::PolicyFault;
+use rebuild::RebuildFault;
+use std::alloc::AllocError;
+use std::alloc::Refused;
+use std::fmt;
+use std::io;
+
+#[derive(Clone, Copy)]
+pub(crate) enum Refusal {
+    // the command line has another form
+    Usage,
+    Policy(PolicyFault),
+    Rebuild(RebuildFault),
+    // a file cannot be read or written
+    File,
+}
+
+impl fmt::Display for Refusal as RefusalDisplay {
+    fn fmt<W: fmt::Write>(&self, f: &mut fmt::Formatter<W>) -> fmt::Result {
+        match *self {
+            Refusal::Usage => f.write_str("the command line has another form: see recover --help"),
+            Refusal::Policy(PolicyFault::Unknown) => f.write_str("refused 1: the policy, its id or its codec is unknown"),
+            Refusal::Policy(PolicyFault::Limit) => f.write_str("refused 2: the scheme breaks a limit"),
+            Refusal::Rebuild(RebuildFault::Block) => f.write_str("refused 3: the block is longer than 2^40 bytes"),
+            Refusal::Rebuild(RebuildFault::TooFew { row, cells }) => write!(f, "refused 7: row {row} has only {cells} cells"),
+            Refusal::Rebuild(RebuildFault::Legacy { row }) => write!(f, "refused 8: row {row} lacks a data cell, and the old codec makes none again"),
+            Refusal::Rebuild(RebuildFault::Memory) => f.write_str("refused 9: there is no memory for it"),
+            Refusal::File => f.write_str("refused 30: a file or folder cannot be read or written"),
+        }
+    }
+}
+
+pub(crate) impl From<PolicyFault> for Refusal as RefusalFromPolicy {
+    fn from(fault: PolicyFault) -> Refusal {
+        Refusal::Policy(fault)
+    }
+}
+
+pub(crate) impl From<RebuildFault> for Refusal as RefusalFromRebuild {
+    fn from(fault: RebuildFault) -> Refusal {
+        Refusal::Rebuild(fault)
+    }
+}
+
+pub(crate) impl From<AllocError> for Refusal as RefusalFromAlloc {
+    fn from(_e: AllocError) -> Refusal {
+        Refusal::Rebuild(RebuildFault::Memory)
+    }
+}
+
+pub(crate) impl<T: Drop> From<Refused<T>> for Refusal as RefusalFromRefused {
+    fn from(_e: Refused<T>) -> Refusal {
+        Refusal::Rebuild(RebuildFault::Memory)
+    }
+}
+
+pub(crate) impl From<io::Error> for Refusal as RefusalFromIo {
+    fn from(_e: io::Error) -> Refusal {
+        Refusal::File
+    }
+}
