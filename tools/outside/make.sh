@@ -61,7 +61,7 @@ python3 model.py parity "$scratch/parity.txt"
 
 # The crate's answers
 if [ -n "${CRATE_RELEASE:-}" ] && [ -n "${CRATE_CHECKED:-}" ]; then
-  python3 ask.py "$CRATE_RELEASE" "$CRATE_CHECKED" $count crate-answers.txt
+  python3 ask.py "$CRATE_RELEASE" "$CRATE_CHECKED" $count ../../crates/replay/data/crate-answers.txt
 else
   echo "crate-answers.txt is left as it is: CRATE_RELEASE and CRATE_CHECKED are not set"
 fi

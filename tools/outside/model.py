@@ -9,7 +9,7 @@
                                          what a reader of the block's shards should find, if the
                                          shards MISSING are not there (FOLDER has them all)
 
-Questions are described at the head of crate-answers.txt. `none`: the rules do not know such a
+Questions are described at the head of crates/replay/data/crate-answers.txt. `none`: the rules do not know such a
 question (cells of unlike length, a row that is not there).
 """
 import hashlib

@@ -4,7 +4,8 @@ ghost use Prim.Native.Nat.{_<_};
 ghost use lib.ListN.{length};
 ghost use Rattle.algebra.specs.Matrices.{product};
 ghost use Rattle.matrix.specs.Grids.{grid, Area, RowIs};
-ghost use Rattle.matrix.specs.Products.{Multiplied};
+ghost use Rattle.matrix.specs.Products.{firstOf, secondOf, Fitting, Multiplied};
+ghost use Rattle.std.specs.declared.result.Result.the-variants.{Ok};
 use super::fault::MatrixFault;
 use super::fault::Sides;
 use super::places::area;
@@ -45,6 +46,16 @@ fn multiply_row<F: Field>(a: &[F], b: &[F], out: &mut [F], of: Shape, row: usize
     }
 }
 
+// The same where the sides are right and the buffers have room.
+fn multiply_fitting<F: Field>(a: &[F], b: &[F], out: &mut [F], of: Shape)
+    requires { ⌜ Fitting (firstOf of) (secondOf of) (length (now a)) (length (now b)) (length (now out)) ⌝ }
+    ensures { λ _. ⌜ Multiplied (F·Field .ops) (firstOf of) (secondOf of) (now (a .entry)) (now (b .entry)) (now (out .entry)) (now (out .exit)) (Ok tt) ⌝ }
+{
+    for r in 0..of.rows {
+        multiply_row(a, b, out, of, r);
+    }
+}
+
 // a times b into out.
 pub fn multiply<F: Field>(
     a: &[F],
@@ -69,8 +80,6 @@ pub fn multiply<F: Field>(
     {
         return Err(MatrixFault::Sides);
     }
-    for r in 0..of.rows {
-        multiply_row(a, b, out, of, r);
-    }
+    multiply_fitting(a, b, out, of);
     Ok(())
 }

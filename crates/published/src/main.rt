@@ -27,7 +27,10 @@ fn print_parity(rt: &LibcRuntime) -> io::Result<()> {
         return Ok(());
     };
     let [a, b, c, p, q] = row;
-    println!(rt, "cells {a:02X} {b:02X} {c:02X} have the parity {p:02X} {q:02X}")
+    println!(
+        rt,
+        "cells {a:02X} {b:02X} {c:02X} have the parity {p:02X} {q:02X}"
+    )
 }
 
 // The shards of a block of 30 bytes, and a range of it row by row.
@@ -50,7 +53,10 @@ fn print_checksums(rt: &LibcRuntime) -> io::Result<()> {
     let digits = b"123456789";
     let crc32 = Checksum::Crc32.of(digits);
     let crc32c = Checksum::Crc32c.of(digits);
-    println!(rt, "123456789 has the CRC32 {crc32:08X} and the CRC32C {crc32c:08X}")
+    println!(
+        rt,
+        "123456789 has the CRC32 {crc32:08X} and the CRC32C {crc32c:08X}"
+    )
 }
 
 fn main(rt: LibcRuntime) -> io::Result<()> {

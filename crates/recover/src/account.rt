@@ -17,11 +17,20 @@ fn codec_name(codec: Codec) -> &'static str {
 }
 
 fn print_scheme(rt: &LibcRuntime, request: &Request) -> io::Result<()> {
-    let EcSchema { codec, data_units, parity_units, cell_size, .. } = request.schema;
+    let EcSchema {
+        codec,
+        data_units,
+        parity_units,
+        cell_size,
+        ..
+    } = request.schema;
     let name = codec_name(codec);
     let len = request.block_len;
     let rows = row_count(request.schema, len);
-    println!(rt, "scheme: {name}, {data_units} data and {parity_units} parity units, cells of {cell_size} bytes")?;
+    println!(
+        rt,
+        "scheme: {name}, {data_units} data and {parity_units} parity units, cells of {cell_size} bytes"
+    )?;
     println!(rt, "block: {len} bytes in {rows} rows")
 }
 
@@ -77,7 +86,12 @@ pub(crate) fn print_account(
         print_shard(rt, i, max_offset(schema, i, request.block_len), *shard)?;
     }
     for row in 0..row_count(schema, request.block_len) {
-        print_row(rt, schema, row, &cells_there(schema, request.block_len, shards, row))?;
+        print_row(
+            rt,
+            schema,
+            row,
+            &cells_there(schema, request.block_len, shards, row),
+        )?;
     }
     let digest = Checksum::Crc32.of(block);
     println!(rt, "digest: CRC-32 {digest:08x}")

@@ -40,7 +40,12 @@ the block. What cannot be done is refused by number and in words; nothing is wri
 fn run(rt: &LibcRuntime, request: &Request) -> Result<(), Refusal> {
     let files = read_shards(rt, request)?;
     let views = files.views(rt.alloc())?;
-    let block = rebuild(rt.alloc(), request.schema, request.block_len, views.as_slice())?;
+    let block = rebuild(
+        rt.alloc(),
+        request.schema,
+        request.block_len,
+        views.as_slice(),
+    )?;
     print_account(rt, request, views.as_slice(), block.as_slice())?;
     fs::write(rt, request.out.as_str(), block.as_slice())?;
     Ok(())

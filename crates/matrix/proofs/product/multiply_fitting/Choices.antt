@@ -1,6 +1,6 @@
 use Rattle.algebra.specs.Matrices.{product}
 use Rattle.matrix.specs.Grids.{grid, RowsTo}
-use Rattle.matrix.proofs.product.multiply.Given as given
+use Rattle.matrix.proofs.product.multiply_fitting.Given as given
 
 abbrev pub Inv-loop-r : given.InvT-loop-r
 Inv-loop-r g l =
