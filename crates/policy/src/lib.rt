@@ -9,6 +9,7 @@ pub use codec::Codec;
 pub use fault::PolicyFault;
 pub use resolve::SentSchema;
 pub use resolve::resolve_ec_policy;
+pub use resolve::schema_by_id;
 pub use resolve::schema_by_name;
 pub use schema::EcSchema;
 pub use table::Policy;

@@ -46,7 +46,8 @@ impl EcSchema {
     }
 }
 
-fn schema_by_id(id: u32) -> Result<EcSchema, PolicyFault>
+// The scheme of a policy by its id.
+pub fn schema_by_id(id: u32) -> Result<EcSchema, PolicyFault>
     ensures { λ r. ⌜ plainAnswer r ≡ listed (policyOf id) ⌝ }
 {
     match policy_by_id(id) {

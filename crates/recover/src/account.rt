@@ -53,14 +53,14 @@ fn print_shard(rt: &LibcRuntime, i: usize, len: u64, shard: Option<&[u8]>) -> io
 fn print_row(rt: &LibcRuntime, schema: EcSchema, row: u64, there: &[bool; 16]) -> io::Result<()> {
     let d = schema.data_units;
     print!(rt, "row {row}:")?;
-    let mut made = 0usize;
+    let mut made = false;
     for i in 0..d {
         if !there[i] {
             print!(rt, " cell {i}")?;
-            made += 1;
+            made = true;
         }
     }
-    if made == 0 {
+    if !made {
         return println!(rt, " all data cells there");
     }
     print!(rt, " made again from shards")?;

@@ -16,7 +16,7 @@ pub(crate) enum Refusal {
     File,
 }
 
-impl fmt::Display for Refusal as RefusalDisplay {
+pub(crate) impl fmt::Display for Refusal as RefusalDisplay {
     fn fmt<W: fmt::Write>(&self, f: &mut fmt::Formatter<W>) -> fmt::Result {
         match *self {
             Refusal::Usage => f.write_str("the command line has another form: see recover --help"),

@@ -1,8 +1,11 @@
 // What the command line asks for.
 use crate::refusal::Refusal;
+use crate::refusal::RefusalFromAlloc;
+use crate::refusal::RefusalFromPolicy;
 use policy::EcSchema;
 use policy::SentSchema;
 use policy::resolve_ec_policy;
+use policy::schema_by_id;
 use policy::schema_by_name;
 use std::alloc::Global;
 
@@ -52,7 +55,7 @@ fn read_schema(text: &str) -> Result<EcSchema, Refusal> {
 fn read_scheme(option: &str, value: &str) -> Result<EcSchema, Refusal> {
     match option {
         "--policy" => Ok(schema_by_name(value)?),
-        "--id" => Ok(resolve_ec_policy(read_part(Some(value))?, 0, None)?),
+        "--id" => Ok(schema_by_id(read_part(Some(value))?)?),
         "--schema" => read_schema(value),
         _ => Err(Refusal::Usage),
     }

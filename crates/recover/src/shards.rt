@@ -1,5 +1,8 @@
 // The shard files of a folder.
 use crate::refusal::Refusal;
+use crate::refusal::RefusalFromAlloc;
+use crate::refusal::RefusalFromIo;
+use crate::refusal::RefusalFromRefused;
 use crate::request::Request;
 use std::alloc::AllocError;
 use std::alloc::Global;
