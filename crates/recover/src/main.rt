@@ -3,6 +3,8 @@ mod account;
 mod refusal;
 mod request;
 mod shards;
+#[cfg(test)]
+mod tests;
 
 use account::print_account;
 use rebuild::rebuild;
