@@ -1,3 +1,5 @@
 mod Laying
 mod RowMade
 mod RowsAdded
+mod DealtRow
+mod DealtBlock

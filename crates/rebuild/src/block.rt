@@ -4,6 +4,7 @@ ghost use mathlib.Core.List.{[]};
 ghost use Prim.Native.Nat.{_^_, _≤_};
 ghost use Rattle.std.specs.Of.Vec.{vec-items};
 ghost use Rattle.stripe.specs.Coded.{RowRoom};
+ghost use Rattle.rebuild.specs.Dealt.{BlockDealt};
 ghost use Rattle.rebuild.specs.Held.{heldIn};
 ghost use Rattle.rebuild.specs.Rebuilt.{Rebuilt, answered, answeredIn};
 use crate::fault::RebuildFault;
@@ -44,6 +45,7 @@ pub fn rebuild(
     shards: &[Option<&[u8]>],
 ) -> Result<Vec<u8>, RebuildFault>
     ensures from_the_shards_held { λ r. ⌜ Rebuilt schema «block_len» (heldIn (now (shards .entry))) (answered r) ⌝ }
+    ensures the_block_dealt { λ r. ⌜ BlockDealt schema «block_len» (heldIn (now (shards .entry))) (answered r) ⌝ }
 {
     if block_len > GREATEST_BLOCK {
         return Err(RebuildFault::Block);
