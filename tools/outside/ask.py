@@ -1,8 +1,9 @@
-"""ask.py RELEASE CHECKED COUNT ANSWERS
+"""ask.py RELEASE CHECKED COUNT ANSWERS [ALL]
 
 Asks the crate COUNT drawn questions, after a fixed list of limits and oddities, through its two
 builds (the programs RELEASE and CHECKED), holds the answers against model.py, names every
-difference, and writes a sample to the file ANSWERS. Fails if an answer is not the one foretold.
+difference, and writes a sample to the file ANSWERS and all of it to ALL. Fails if an answer is not
+the one foretold.
 
 `crate` below is a model of the crate, faults included. It foretells every answer, so a difference
 is explained by a line of that function and not only by a name.
@@ -425,7 +426,7 @@ HEAD = """\
 """
 
 
-def main(release, checked, count, out):
+def main(release, checked, count, out, every=None):
     draw = Draw(7)
     always = list(dict.fromkeys(fixed()))
     pairs = [f"matrix {d} {p}" for d in range(1, 16) for p in range(1, 17 - d)]
@@ -450,6 +451,11 @@ def main(release, checked, count, out):
         for k, v in by.items():
             total[k] = total.get(k, 0) + len(v)
     print("  all: " + ", ".join(f"{k} {v}" for k, v in sorted(total.items())))
+
+    # All of it, to be replayed once by hand
+    if every:
+        with open(every, "w") as file:
+            file.write("\n".join(lines[q] for q in questions) + "\n")
 
     # The sample: the fixed list, then a few short drawn ones of each kind and outcome
     with open(out, "w") as file:

@@ -1,6 +1,7 @@
 -- What holds of each codec. Assumes nothing.
 use mathlib.Core.Path.{_≡_, refl, sym, ap, _∙_, subst}
 use mathlib.Core.Bool.{Bool, true, false, cond}
+use mathlib.Core.List.{List}
 use Prim.Native.Nat.{ℕ, suc, zero, _+_, _≤_, _<_}
 use native.Mathlib.Nat.{not-suc-le-zero, le-of-suc-le-suc, eq-or-lt-of-le}
 use native.Mathlib.Omega.{arith}
@@ -19,10 +20,12 @@ use Rattle.codes.specs.Generators.{rs-part, rs-generator, xor-part, xor-generat
 use Rattle.codes.proofs.Rows.{rs-invertible, xor-invertible}
 use Rattle.policy.specs.declared.codec.Codec.{Codec}
 use Rattle.policy.specs.declared.codec.Codec.the-variants.{Rs, RsLegacy, Xor}
-use Rattle.stripe.specs.Coded.{coded, FollowsCode, CellsDetermine}
+use Rattle.std.specs.declared.result.Result.the-variants.{Ok}
+use Rattle.policy.specs.declared.schema.EcSchema.{EcSchema}
+use Rattle.stripe.specs.Coded.{byte-at, coded, units, RowRoom, FollowsCode, CellsDetermine}
 use Rattle.stripe.specs.Encoded.{ParityIs}
-use Rattle.stripe.specs.Recovered.{MadeAgain}
-use Rattle.stripe.specs.There.{lowest-there}
+use Rattle.stripe.specs.Recovered.{MadeAgain, Recovered, DealtCells, RowDetermined}
+use Rattle.stripe.specs.There.{flag, lowest-there}
 use Rattle.stripe.proofs.Cells.{count-le, rank, choice, listing}
 use Rattle.stripe.proofs.Rows.{Local, mixed-rows}
 
@@ -110,3 +113,27 @@ pub cells-determine : (codec : Codec) (d p : ℕ) → d + p ≤ 16 → (codec �
 cells-determine Rs d p n o k = determined laws256 d (d + p) (rs-generator d) (rs-invertible d p (omega arith)) (omega arith)
 cells-determine Xor d p n o k = determined laws2 d (d + p) (xor-generator d) (xor-invertible d p (o refl)) (omega arith)
 cells-determine RsLegacy d p n o k = absurd (k refl)
+
+-- ---- the answers of the calls on a row
+pub rs-known : Rs ≡ RsLegacy → ⊥
+rs-known e = let z : _≡_ {A = ℕ} 0 1 = cc in omega arith
+
+pub xor-known : Xor ≡ RsLegacy → ⊥
+xor-known e = let z : _≡_ {A = ℕ} 0 1 = cc in omega arith
+
+-- what a row made again answers, from what was made
+pub record Answered (s : EcSchema) (flags : List Bool) (row row′ : List ℕ) (made : ℕ) : Type 0 where
+  pub recovered : Recovered s flags row row′ (Ok made)
+  pub dealt-cells : DealtCells s flags row row′ (Ok made)
+  pub determines : RowDetermined s (Ok made)
+
+pub answer : (s : EcSchema) (flags : List Bool) (row row′ : List ℕ) (made : ℕ) → RowRoom s row → s .«data_units» ≤ count (flag flags) (units s)
+    → made + count (flag flags) (s .«data_units») ≡ s .«data_units» → (s .codec ≡ RsLegacy → made ≡ 0) → ((r i : ℕ) → byte-at (s .«cell_size») row′ r i < 256)
+    → MadeAgain (s .«data_units») (units s) (s .«cell_size») (coded (s .codec) (s .«data_units»)) (flag flags) (byte-at (s .«cell_size») row) (byte-at (s .«cell_size») row′)
+    → Answered s flags row row′ made
+answer s flags row row′ made room enough count-is old bytes t = record {
+  recovered = (room, enough, count-is, old, t);
+  dealt-cells = dealt (s .codec) (s .«data_units») (s .«parity_units») (s .«cell_size») (flag flags) (byte-at (s .«cell_size») row) (byte-at (s .«cell_size») row′) (s .narrow) (s .«xor_alone»)
+      (λ e. let z = old e in omega arith) enough bytes t;
+  determines = cells-determine (s .codec) (s .«data_units») (s .«parity_units») (s .narrow) (s .«xor_alone»);
+}
