@@ -1,7 +1,7 @@
 -- What one more row leaves of the block that is put together. Assumes nothing.
 use Prim.Native.Nat.{ℕ, _+_, _-_, _*_, _^_, _≤_, _<_, min}
 use mathlib.Core.Path.{_≡_, sym, ap, subst, _∙_}
-use mathlib.Core.List.{List, _++_}
+use mathlib.Core.List.{List, [], _++_}
 use native.Mathlib.Omega.{arith}
 use borrow.Author.Count.{below-more}
 use lib.ListN.{length, getD, take}
@@ -26,6 +26,9 @@ module _ (e : EcSchema) (n : ℕ) (held : ℕ → Option (List ℕ)) where
   pub record RowsTo (block : List ℕ) (k : ℕ) : Type 0 where
     pub long : length block ≡ begun k
     pub each : (q : ℕ) → q < k → RowIn e n held block q
+
+  pub rows-none : (block : List ℕ) → block ≡ [] → RowsTo block 0
+  rows-none block e = record { long = ap length e ∙ omega arith; each = λ q h. absurd (omega arith) }
 
   -- a byte of a row before row k stands among the bytes so far
   before-row : (q k c j : ℕ) → q < k → c < e .«data_units» → j < e .«cell_size» → (q * e .«data_units» + c) * e .«cell_size» + j < k * (e .«data_units» * e .«cell_size»)

@@ -13,7 +13,8 @@ use Rattle.cells.specs.declared.rows.RowRange.{RowRange}
 use Rattle.dealing.specs.Places.{rowBytes, partLen}
 use Rattle.stripe.specs.Coded.{byte-at, units}
 use Rattle.rebuild.specs.Held.{heldIn}
-use Rattle.rebuild.proofs.RowsAdded.{RowsTo, rows-more, rows-all, row-refused}
+use Rattle.rebuild.specs.Rebuilt.{rowsIn}
+use Rattle.rebuild.proofs.RowsAdded.{RowsTo, rows-none, rows-more, rows-all, row-refused}
 use Rattle.rebuild.proofs.block.add_rows.Needs as need
 
 pub rebuild-row-requires : need.rebuild-row-requires
@@ -61,3 +62,15 @@ loop-row-again c =
 
 pub keeps-buffer : need.keeps-buffer
 keeps-buffer c = c .loop-row .inv .0
+
+pub loop-row-holds : need.loop-row-holds
+loop-row-holds c = (refl, rows-none (c .args .schema) (c .args .block-len) (heldIn (c .args .shards .now)) (vec-items (c .args .block .now)) (c .pre .1 .1))
+
+pub returns : need.returns
+returns c =
+    let s = c .args .schema in
+    let held = heldIn (c .args .shards .now) in
+    let to = c .loop-row .inv .1 in
+    let all : c .loop-row .row ≡ rowsIn s (c .args .block-len) =
+    (let v = c .row-count-row-end .ensures .value in let i = c .loop-row .kept .row-end in let l = c .loop-row-test .left in omega arith) in
+    (c .pre .0, rows-all s (c .args .block-len) held (vec-items (c .loop-row .block)) (c .loop-row .row) all to, λ k h. to .each k (omega arith))
