@@ -3,7 +3,7 @@ ghost use mathlib.Core.Path.{_≡_};
 ghost use Prim.Native.Nat.{ℕ, _+_, _^_, _<_, _≤_, min};
 ghost use lib.ListN.{length, take, drop};
 ghost use Rattle.std.specs.Vec.{made};
-ghost use Rattle.wire.specs.Varints.{followed, joined, varintAt};
+ghost use Rattle.wire.specs.Varints.{followed, joined, fitting, varintAt};
 use crate::faults::WireFault;
 
 // A varint's number, and the place after its last byte.
@@ -44,6 +44,20 @@ fn join_groups(message: &[u8], at: usize, count: usize) -> u128
     value
 }
 
+// A number of at most 64 bits, with the place after it.
+fn fit(value: u128, next: usize) -> Result<Varint, WireFault>
+    ensures refuses_more_bits { λ r. ⌜ r ≡ fitting value next ⌝ }
+    ensures keeps_the_place { λ r. ⌜ made r (λ v. v .next ≡ next) ⌝ }
+{
+    if value > 0xFFFF_FFFF_FFFF_FFFF {
+        return Err(WireFault::Malformed);
+    }
+    Ok(Varint {
+        value: value as u64,
+        next,
+    })
+}
+
 // The varint at a place.
 pub fn read_varint(message: &[u8], at: usize) -> Result<Varint, WireFault>
     ensures reads_the_varint { λ r. ⌜ r ≡ varintAt (now (message .entry)) at ⌝ }
@@ -59,12 +73,5 @@ pub fn read_varint(message: &[u8], at: usize) -> Result<Varint, WireFault>
     if message.len() - at == followed {
         return Err(WireFault::CutShort);
     }
-    let value = join_groups(message, at, followed + 1);
-    if value > 0xFFFF_FFFF_FFFF_FFFF {
-        return Err(WireFault::Malformed);
-    }
-    Ok(Varint {
-        value: value as u64,
-        next: at + followed + 1,
-    })
+    fit(join_groups(message, at, followed + 1), at + followed + 1)
 }
