@@ -6,6 +6,7 @@ use lib.Dec.{leb, eqb}
 use lib.ListN.{length, take, drop}
 use Rattle.std.specs.declared.result.Result.the-variants.{Ok, Err}
 use Rattle.wire.specs.declared.faults.WireFault.the-variants.{CutShort, Malformed}
+use Rattle.wire.specs.declared.varints.Varint.{Varint}
 use Rattle.wire.specs.Readings.{Reading, andThen}
 use Rattle.wire.specs.Varints.{varintAt}
 use Rattle.wire.specs.Numbers.{little}
@@ -85,7 +86,10 @@ numbered n r = andThen r (λ v. Ok (found (field n (v .value)) (v .next)))
 abbrev pub badKey : ℕ → Bool
 badKey k = leb (2 ^ 32) k || eqb (k / 8) 0
 
+-- the field of a key, from the place after the key on
+abbrev pub keyed : List ℕ → Varint → Reading Found
+keyed m k = cond (badKey (k .value)) (Err Malformed) (numbered (k .value / 8) (valueAt m (k .value % 8) (k .next)))
+
 -- the field at a place: a key, and the value that it asks for
-abbrev pub fieldAt : List ℕ → ℕ → Reading Found
-fieldAt m at = andThen (varintAt m at) (λ k.
-    cond (badKey (k .value)) (Err Malformed) (numbered (k .value / 8) (valueAt m (k .value % 8) (k .next))))
+unfoldable pub fieldAt : List ℕ → ℕ → Reading Found
+fieldAt m at = andThen (varintAt m at) (keyed m)

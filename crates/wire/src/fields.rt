@@ -5,9 +5,10 @@ ghost use lib.Dec.{leb};
 ghost use lib.ListN.{length, take, drop};
 ghost use Rattle.std.specs.Vec.{made};
 ghost use Rattle.wire.specs.Numbers.{little};
-ghost use Rattle.wire.specs.Fields.{varintValue, fixed64Value, partValue, fixed32Value, numbered, fieldAt};
+ghost use Rattle.wire.specs.Fields.{varintValue, fixed64Value, partValue, fixed32Value, numbered, keyed, fieldAt};
 ghost use Rattle.wire.specs.Shown.{shown};
 use crate::faults::WireFault;
+use crate::varints::Varint;
 use crate::varints::read_varint;
 
 // What a field holds; a part is lent from the message, and begins at a place of it.
@@ -127,12 +128,12 @@ fn read_fixed32<'a>(message: &'a [u8], number: u32, at: usize) -> Result<WireFie
     })
 }
 
-// The field at a place.
-pub fn read_field<'a>(message: &'a [u8], at: usize) -> Result<WireField<'a>, WireFault>
-    ensures reads_the_field { λ r. ⌜ shown r ≡ fieldAt (now (message .entry)) at ⌝ }
-    ensures moves_on { λ r. ⌜ made r (λ f. (at < f .next) × (f .next ≤ length (now (message .entry)))) ⌝ }
+// The field whose key was read.
+fn read_keyed<'a>(message: &'a [u8], key: Varint) -> Result<WireField<'a>, WireFault>
+    requires { ⌜ key .next ≤ length (now message) ⌝ }
+    ensures reads_the_value { λ r. ⌜ shown r ≡ keyed (now (message .entry)) key ⌝ }
+    ensures moves_on { λ r. ⌜ made r (λ f. (key .next < f .next) × (f .next ≤ length (now (message .entry)))) ⌝ }
 {
-    let key = read_varint(message, at)?;
     if key.value > 0xFFFF_FFFF || key.value / 8 == 0 {
         return Err(WireFault::Malformed);
     }
@@ -144,4 +145,13 @@ pub fn read_field<'a>(message: &'a [u8], at: usize) -> Result<WireField<'a>, Wir
         5 => read_fixed32(message, number, key.next),
         _ => Err(WireFault::Malformed),
     }
+}
+
+// The field at a place.
+pub fn read_field<'a>(message: &'a [u8], at: usize) -> Result<WireField<'a>, WireFault>
+    ensures reads_the_field { λ r. ⌜ shown r ≡ fieldAt (now (message .entry)) at ⌝ }
+    ensures moves_on { λ r. ⌜ made r (λ f. (at < f .next) × (f .next ≤ length (now (message .entry)))) ⌝ }
+{
+    let key = read_varint(message, at)?;
+    read_keyed(message, key)
 }
