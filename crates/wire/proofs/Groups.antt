@@ -37,7 +37,7 @@ joined-more m at left count v p q r e =
     rw one (omega (arith, step, e))
 
 -- what so many groups of seven bits can say
-abbrev limit : ℕ → ℕ
+abbrev pub limit : ℕ → ℕ
 limit zero = 1
 limit (suc n) = 128 * limit n
 

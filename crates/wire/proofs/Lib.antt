@@ -3,3 +3,4 @@ pub mod Groups
 pub mod Words
 pub mod Ends
 pub mod Loops
+pub mod Written

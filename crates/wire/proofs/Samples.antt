@@ -6,6 +6,7 @@ use Rattle.std.specs.declared.result.Result.the-variants.{Ok, Err}
 use Rattle.wire.specs.declared.faults.WireFault.the-variants.{CutShort, Malformed}
 use Rattle.wire.specs.Fields.{varint, fixed64, part, fixed32, field, found, fieldAt}
 use Rattle.wire.specs.Messages.{fieldsOf}
+use Rattle.wire.specs.Varints.{varintBytes}
 
 -- a length is due
 pub cut-short : fieldAt (0x0a ∷ []) 0 ≡ Err CutShort
@@ -86,3 +87,16 @@ two-fields = refl
 pub first-fault : fieldsOf (0x08 ∷ 0x96 ∷ 0x01 ∷ 0x0b ∷ 0x12 ∷ []) ≡ Err Malformed
 unfolding fieldAt
 first-fault = refl
+
+-- the shortest form of a number
+pub shortest : varintBytes 150 ≡ 0x96 ∷ 0x01 ∷ []
+unfolding varintBytes
+shortest = refl
+
+pub shortest-of-zero : varintBytes 0 ≡ 0x00 ∷ []
+unfolding varintBytes
+shortest-of-zero = refl
+
+pub shortest-of-the-largest : varintBytes (2 ^ 64 - 1) ≡ 0xff ∷ 0xff ∷ 0xff ∷ 0xff ∷ 0xff ∷ 0xff ∷ 0xff ∷ 0xff ∷ 0xff ∷ 0x01 ∷ []
+unfolding varintBytes
+shortest-of-the-largest = refl

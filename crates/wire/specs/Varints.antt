@@ -1,5 +1,5 @@
 -- Varints: each byte has seven bits of the number, the lowest first, and a top bit that says whether more bytes follow. Assumes nothing.
-use Prim.Native.Nat.{ℕ, suc, _+_, _*_, _%_, _^_}
+use Prim.Native.Nat.{ℕ, zero, suc, _+_, _*_, _/_, _%_, _^_}
 use mathlib.Core.Bool.{cond}
 use mathlib.Core.List.{List, [], _∷_}
 use lib.Dec.{ltb, leb}
@@ -36,3 +36,12 @@ varintOf at bs =
 -- the varint at a place of a message
 abbrev pub varintAt : List ℕ → ℕ → Reading Varint
 varintAt m at = varintOf at (drop at m)
+
+-- the bytes of a number, seven bits a byte and no more bytes than need be, at most so many of them with another after them
+abbrev pub groupsOf : ℕ → ℕ → List ℕ
+groupsOf zero n = n ∷ []
+groupsOf (suc k) n = cond (ltb n 128) (n ∷ []) ((128 + n % 128) ∷ groupsOf k (n / 128))
+
+-- the shortest varint of a number of 64 bits
+unfoldable pub varintBytes : ℕ → List ℕ
+varintBytes n = groupsOf 9 n

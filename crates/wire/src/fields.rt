@@ -9,7 +9,7 @@ ghost use Rattle.wire.specs.Fields.{varintValue, fixed64Value, partValue, fixe
 ghost use Rattle.wire.specs.Shown.{shown};
 use crate::faults::WireFault;
 use crate::varints::Varint;
-use crate::varints::read_varint;
+use crate::varints::varint_at;
 
 // What a field holds; a part is lent from the message, and begins at a place of it.
 #[derive(Clone, Copy)]
@@ -69,7 +69,7 @@ fn read_number<'a>(message: &'a [u8], number: u32, at: usize) -> Result<WireFiel
     ensures reads_the_value { λ r. ⌜ shown r ≡ numbered number (varintValue (now (message .entry)) at) ⌝ }
     ensures moves_on { λ r. ⌜ made r (λ f. (at < f .next) × (f .next ≤ length (now (message .entry)))) ⌝ }
 {
-    let varint = read_varint(message, at)?;
+    let varint = varint_at(message, at)?;
     Ok(WireField {
         number,
         value: WireValue::Varint(varint.value),
@@ -97,7 +97,7 @@ fn read_part<'a>(message: &'a [u8], number: u32, at: usize) -> Result<WireField<
     ensures reads_the_value { λ r. ⌜ shown r ≡ numbered number (partValue (now (message .entry)) at) ⌝ }
     ensures moves_on { λ r. ⌜ made r (λ f. (at < f .next) × (f .next ≤ length (now (message .entry)))) ⌝ }
 {
-    let len = read_varint(message, at)?;
+    let len = varint_at(message, at)?;
     let place = len.next;
     if !has_bytes(message, place, len.value) {
         return Err(WireFault::CutShort);
@@ -152,6 +152,6 @@ pub fn read_field<'a>(message: &'a [u8], at: usize) -> Result<WireField<'a>, Wir
     ensures reads_the_field { λ r. ⌜ shown r ≡ fieldAt (now (message .entry)) at ⌝ }
     ensures moves_on { λ r. ⌜ made r (λ f. (at < f .next) × (f .next ≤ length (now (message .entry)))) ⌝ }
 {
-    let key = read_varint(message, at)?;
+    let key = varint_at(message, at)?;
     read_keyed(message, key)
 }

@@ -1,9 +1,11 @@
 // Varints: numbers of up to 64 bits in groups of seven, the lowest group first.
 ghost use mathlib.Core.Path.{_≡_};
+ghost use mathlib.Core.List.{List, _++_};
 ghost use Prim.Native.Nat.{ℕ, _+_, _^_, _<_, _≤_, min};
 ghost use lib.ListN.{length, take, drop};
 ghost use Rattle.std.specs.Vec.{made};
-ghost use Rattle.wire.specs.Varints.{followed, joined, fitting, varintAt};
+ghost use Rattle.std.specs.declared.result.Result.the-variants.{Ok};
+ghost use Rattle.wire.specs.Varints.{followed, joined, fitting, varintAt, varint, varintBytes};
 use crate::faults::WireFault;
 
 // A varint's number, and the place after its last byte.
@@ -58,8 +60,8 @@ fn fit(value: u128, next: usize) -> Result<Varint, WireFault>
     })
 }
 
-// The varint at a place.
-pub fn read_varint(message: &[u8], at: usize) -> Result<Varint, WireFault>
+// The varint at a place, by how many of its bytes have another after them.
+pub(crate) fn varint_at(message: &[u8], at: usize) -> Result<Varint, WireFault>
     ensures reads_the_varint { λ r. ⌜ r ≡ varintAt (now (message .entry)) at ⌝ }
     ensures moves_on { λ r. ⌜ made r (λ v. (at < v .next) × (v .next ≤ length (now (message .entry)))) ⌝ }
 {
@@ -74,4 +76,13 @@ pub fn read_varint(message: &[u8], at: usize) -> Result<Varint, WireFault>
         return Err(WireFault::CutShort);
     }
     fit(join_groups(message, at, followed + 1), at + followed + 1)
+}
+
+// The varint at a place; every number of 64 bits that is written in the shortest form is read back.
+pub fn read_varint(message: &[u8], at: usize) -> Result<Varint, WireFault>
+    ensures reads_the_varint { λ r. ⌜ r ≡ varintAt (now (message .entry)) at ⌝ }
+    ensures reads_back { λ r. ⌜ ((n : ℕ) (xs ys : List ℕ) → n < 2 ^ 64 → at ≡ length xs → now (message .entry) ≡ xs ++ (varintBytes n ++ ys) → r ≡ Ok (varint n (at + length (varintBytes n)))) ⌝ }
+    ensures moves_on { λ r. ⌜ made r (λ v. (at < v .next) × (v .next ≤ length (now (message .entry)))) ⌝ }
+{
+    varint_at(message, at)
 }
