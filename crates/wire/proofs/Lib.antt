@@ -4,3 +4,4 @@ pub mod Words
 pub mod Ends
 pub mod Loops
 pub mod Written
+pub mod Puts

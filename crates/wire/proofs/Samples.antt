@@ -6,7 +6,7 @@ use Rattle.std.specs.declared.result.Result.the-variants.{Ok, Err}
 use Rattle.wire.specs.declared.faults.WireFault.the-variants.{CutShort, Malformed}
 use Rattle.wire.specs.Fields.{varint, fixed64, part, fixed32, field, found, fieldAt}
 use Rattle.wire.specs.Messages.{fieldsOf}
-use Rattle.wire.specs.Varints.{varintBytes}
+use Rattle.wire.specs.Varints.{groupsOf, varintBytes}
 
 -- a length is due
 pub cut-short : fieldAt (0x0a ∷ []) 0 ≡ Err CutShort
@@ -90,13 +90,13 @@ first-fault = refl
 
 -- the shortest form of a number
 pub shortest : varintBytes 150 ≡ 0x96 ∷ 0x01 ∷ []
-unfolding varintBytes
+unfolding varintBytes groupsOf
 shortest = refl
 
 pub shortest-of-zero : varintBytes 0 ≡ 0x00 ∷ []
-unfolding varintBytes
+unfolding varintBytes groupsOf
 shortest-of-zero = refl
 
 pub shortest-of-the-largest : varintBytes (2 ^ 64 - 1) ≡ 0xff ∷ 0xff ∷ 0xff ∷ 0xff ∷ 0xff ∷ 0xff ∷ 0xff ∷ 0xff ∷ 0xff ∷ 0x01 ∷ []
-unfolding varintBytes
+unfolding varintBytes groupsOf
 shortest-of-the-largest = refl

@@ -16,10 +16,12 @@ use Rattle.wire.specs.Varints.{followed, joined, fitting, varint, varintOf, va
 use Rattle.wire.proofs.Groups.{limit}
 
 -- a number below 128 is one byte, a larger one has its low seven bits before the rest
-few : (k n : ℕ) → n < 128 → groupsOf (suc k) n ≡ n ∷ []
+pub few : (k n : ℕ) → n < 128 → groupsOf (suc k) n ≡ n ∷ []
+unfolding groupsOf
 few k n h = cond-true (ltb n 128) _ _ (lt-ltb n 128 h)
 
-many : (k n : ℕ) → 128 ≤ n → groupsOf (suc k) n ≡ (128 + n % 128) ∷ groupsOf k (n / 128)
+pub many : (k n : ℕ) → 128 ≤ n → groupsOf (suc k) n ≡ (128 + n % 128) ∷ groupsOf k (n / 128)
+unfolding groupsOf
 many k n h = cond-false (ltb n 128) _ _ (le-ltb n 128 h)
 
 followed-one : (n : ℕ) (ys : List ℕ) → n < 128 → followed (n ∷ ys) ≡ 0
@@ -30,6 +32,7 @@ followed-top b ys h = cond-false (ltb b 128) _ _ (le-ltb b 128 h)
 
 -- all bytes but the last have another after them
 groups-followed : (k n : ℕ) (ys : List ℕ) → n < limit (suc k) → followed (groupsOf k n ++ ys) + 1 ≡ length (groupsOf k n)
+unfolding groupsOf
 groups-followed zero n ys h = omega (arith, followed-one n ys h)
 groups-followed (suc k) n ys h =
     elim (cases-lt n 128) [
@@ -38,6 +41,7 @@ groups-followed (suc k) n ys h =
     ]
 
 groups-joined : (k n : ℕ) → n < limit (suc k) → joined (groupsOf k n) ≡ n
+unfolding groupsOf
 groups-joined zero n h = omega arith
 groups-joined (suc k) n h =
     elim (cases-lt n 128) [
@@ -46,6 +50,7 @@ groups-joined (suc k) n h =
     ]
 
 groups-length : (k n : ℕ) → length (groupsOf k n) ≤ suc k
+unfolding groupsOf
 groups-length zero n = omega arith
 groups-length (suc k) n =
     elim (cases-lt n 128) [

@@ -5,3 +5,4 @@ pub mod Numbers
 pub mod Fields
 pub mod Messages
 pub mod Shown
+pub mod Writes

@@ -38,7 +38,7 @@ abbrev pub varintAt : List ℕ → ℕ → Reading Varint
 varintAt m at = varintOf at (drop at m)
 
 -- the bytes of a number, seven bits a byte and no more bytes than need be, at most so many of them with another after them
-abbrev pub groupsOf : ℕ → ℕ → List ℕ
+unfoldable pub groupsOf : ℕ → ℕ → List ℕ
 groupsOf zero n = n ∷ []
 groupsOf (suc k) n = cond (ltb n 128) (n ∷ []) ((128 + n % 128) ∷ groupsOf k (n / 128))
 

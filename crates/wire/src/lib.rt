@@ -9,6 +9,7 @@
 mod faults;
 mod fields;
 mod varints;
+mod writing;
 
 pub use faults::WireFault;
 pub use fields::WireField;
@@ -16,3 +17,5 @@ pub use fields::WireValue;
 pub use fields::read_field;
 pub use varints::Varint;
 pub use varints::read_varint;
+pub use writing::WriteFault;
+pub use writing::write_varint;
