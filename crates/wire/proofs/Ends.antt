@@ -1,8 +1,7 @@
 -- What is read ends after its place and inside the message. Assumes nothing.
-use mathlib.Core.Path.{_≡_, refl}
-use mathlib.Core.Bool.{true, false, cond}
+use mathlib.Core.Path.{_≡_}
 use mathlib.Core.List.{List}
-use Prim.Native.Nat.{ℕ, _+_, _/_, _%_, _^_, _<_, _≤_}
+use Prim.Native.Nat.{ℕ, _+_, _%_, _^_, _<_, _≤_}
 use native.Mathlib.Omega.{arith}
 use lib.Dec.{ltb, leb, eqb}
 use lib.ListN.{length, take, drop, length-drop}
@@ -12,8 +11,8 @@ use Rattle.std.proofs.shelf.Results.{made-at-ok}
 use Rattle.std.proofs.shelf.Tests.{leb-true, leb-false, cond-both}
 use Rattle.wire.specs.declared.varints.Varint.{Varint}
 use Rattle.wire.specs.Readings.{Reading, andThen}
-use Rattle.wire.specs.Varints.{followed, joined, fitting, varintAt}
-use Rattle.wire.specs.Fields.{Reached, Found, bytesAt, varintValue, fixed64Value, partValue, fixed32Value, valueAt, numbered, badKey, keyed, fieldAt}
+use Rattle.wire.specs.Varints.{followed, joined, varintAt}
+use Rattle.wire.specs.Fields.{Reached, Found, bytesAt, valueAt, badKey, fieldAt}
 
 made-then : {X Y : Type 0} (r : Reading X) (f : X → Reading Y) (P : X → Type 0) (Q : Y → Type 0)
     → made r P → ((x : X) → P x → made (f x) Q) → made (andThen r f) Q

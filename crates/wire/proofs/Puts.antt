@@ -2,11 +2,11 @@
 use mathlib.Core.Path.{_≡_, refl, sym, ap, ap₂, _∙_}
 use mathlib.Core.List.{List, [], _∷_, _++_, append-assoc}
 use mathlib.Core.Logic.{inl, inr}
-use Prim.Native.Nat.{ℕ, zero, suc, _+_, _-_, _*_, _/_, _%_, _^_, _<_, _≤_}
+use Prim.Native.Nat.{ℕ, zero, suc, _+_, _-_, _/_, _%_, _<_, _≤_}
 use native.Mathlib.Omega.{arith}
 use lib.ListN.{length, take, drop, set, take-append-drop}
 use Rattle.std.proofs.shelf.Lists.{take-more-set, drop-set-lt}
-use Rattle.std.proofs.shelf.Tests.{lt-ltb, cond-true, cases-lt}
+use Rattle.std.proofs.shelf.Tests.{cases-lt}
 use Rattle.wire.specs.Varints.{groupsOf, varintBytes}
 use Rattle.wire.specs.Writes.{overwritten}
 use Rattle.wire.proofs.Groups.{limit}

@@ -1,11 +1,13 @@
 -- Fields of short messages, each computed. Assumes nothing.
 use mathlib.Core.Path.{_≡_, refl}
-use mathlib.Core.List.{List, [], _∷_}
-use Prim.Native.Nat.{ℕ, _-_, _^_}
+use mathlib.Core.Bool.{true}
+use mathlib.Core.List.{[], _∷_}
+use Prim.Native.Nat.{_+_, _-_, _^_}
 use Rattle.std.specs.declared.result.Result.the-variants.{Ok, Err}
 use Rattle.wire.specs.declared.faults.WireFault.the-variants.{CutShort, Malformed}
 use Rattle.wire.specs.Fields.{varint, fixed64, part, fixed32, field, found, fieldAt}
 use Rattle.wire.specs.Messages.{fieldsOf}
+use Rattle.wire.specs.Numbers.{low32, truth}
 use Rattle.wire.specs.Varints.{groupsOf, varintBytes}
 
 -- a length is due
@@ -100,3 +102,10 @@ shortest-of-zero = refl
 pub shortest-of-the-largest : varintBytes (2 ^ 64 - 1) ≡ 0xff ∷ 0xff ∷ 0xff ∷ 0xff ∷ 0xff ∷ 0xff ∷ 0xff ∷ 0xff ∷ 0xff ∷ 0x01 ∷ []
 unfolding varintBytes groupsOf
 shortest-of-the-largest = refl
+
+-- a varint of 33 bits in a field of 32, and in one that is true or false
+pub low-bits : low32 (2 ^ 32 + 5) ≡ 5
+low-bits = refl
+
+pub all-bits : truth (2 ^ 32) ≡ true
+all-bits = refl

@@ -1,4 +1,4 @@
-// Fields of a protobuf message, read one at a time from a place in it.
+// Fields of a protobuf message, read one at a time from a place in it, and varints as they are written.
 //
 //   08 96 01                       field 1, varint 150
 //   12 07 74 65 73 74 69 6e 67     field 2, a part of 7 bytes, "testing"

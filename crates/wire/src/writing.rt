@@ -1,6 +1,6 @@
 // Varints as they are written, in the shortest form.
 ghost use mathlib.Core.Path.{_≡_};
-ghost use Prim.Native.Nat.{ℕ, _+_, _≤_};
+ghost use Prim.Native.Nat.{_+_, _≤_};
 ghost use lib.ListN.{length};
 ghost use Rattle.wire.specs.Varints.{varintBytes};
 ghost use Rattle.wire.specs.Writes.{overwritten, placeAfter, bytesAfter};

@@ -1,5 +1,5 @@
 -- Each turn takes the byte before those that are joined, and at most ten bytes have seventy bits.
-use Prim.Native.Nat.{_+_, _-_, _≤_}
+use Prim.Native.Nat.{_+_, _-_}
 use native.Mathlib.Omega.{arith}
 use lib.ListN.{drop}
 use Rattle.wire.proofs.Groups.{joined-more, joined-fits}

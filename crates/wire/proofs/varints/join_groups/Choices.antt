@@ -1,7 +1,7 @@
 -- What the bytes from the last on have come to.
 use mathlib.Core.Path.{_≡_}
 use Prim.Native.Nat.{_+_, _-_, _≤_}
-use lib.ListN.{length, take, drop}
+use lib.ListN.{take, drop}
 use Rattle.wire.specs.Varints.{joined}
 use Rattle.wire.proofs.varints.join_groups.Given as given
 

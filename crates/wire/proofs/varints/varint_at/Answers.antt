@@ -1,10 +1,9 @@
 -- The varint by how many of its bytes have another after them.
 use mathlib.Core.Path.{_≡_, sym, ap, _∙_}
-use Prim.Native.Nat.{ℕ, _+_, _-_, _<_, _≤_}
+use Prim.Native.Nat.{ℕ, _+_, _<_, _≤_}
 use native.Mathlib.Omega.{arith}
 use lib.ListN.{length}
 use Rattle.std.proofs.shelf.Results.{made-weaker}
-use Rattle.wire.specs.declared.varints.Varint.{Varint}
 use Rattle.wire.specs.Varints.{fitting}
 use Rattle.wire.proofs.Groups.{varint-past, varint-cut, varint-whole}
 use Rattle.wire.proofs.varints.varint_at.Needs as need

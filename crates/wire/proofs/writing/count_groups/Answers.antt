@@ -1,6 +1,6 @@
 -- Each turn leaves out one byte of those that are left.
-use mathlib.Core.Path.{_≡_, ap}
-use Prim.Native.Nat.{ℕ, _+_, _-_, _<_, _≤_}
+use mathlib.Core.Path.{ap}
+use Prim.Native.Nat.{_-_}
 use native.Mathlib.Omega.{arith}
 use lib.ListN.{length}
 use Rattle.wire.proofs.Puts.{groups-last, groups-left, limit-next, groups-next, bytes-are}
