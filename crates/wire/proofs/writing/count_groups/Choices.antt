@@ -1,0 +1,14 @@
+-- The bytes counted so far and those of what is left are all bytes.
+use mathlib.Core.Path.{_≡_}
+use Prim.Native.Nat.{_+_, _-_, _<_, _≤_}
+use lib.ListN.{length}
+use Rattle.wire.specs.Varints.{groupsOf, varintBytes}
+use Rattle.wire.proofs.Groups.{limit}
+use Rattle.wire.proofs.writing.count_groups.Given as given
+
+abbrev pub Inv-loop-left : given.InvT-loop-left
+Inv-loop-left l =
+    (l .done ≤ 9) × (l .left < limit (10 - l .done)) × (l .done + length (groupsOf (9 - l .done) (l .left)) ≡ length (varintBytes (l .entry .left)))
+
+abbrev pub μ-loop-left : given.MeasureT-loop-left
+μ-loop-left l = l .left
