@@ -2,6 +2,7 @@
 ghost use mathlib.Core.Path.{_≡_};
 ghost use Prim.Native.Nat.{_+_, _≤_};
 ghost use lib.ListN.{length};
+ghost use Rattle.wire.specs.Faults.{writeNumberOf};
 ghost use Rattle.wire.specs.Varints.{varintBytes};
 ghost use Rattle.wire.specs.Writes.{overwritten, placeAfter, bytesAfter};
 
@@ -9,6 +10,16 @@ ghost use Rattle.wire.specs.Writes.{overwritten, placeAfter, bytesAfter};
 pub enum WriteFault {
     // The buffer ends before the varint does.
     Short,
+}
+
+impl WriteFault {
+    pub fn number(self) -> u8
+        ensures { λ r. ⌜ r ≡ writeNumberOf self ⌝ }
+    {
+        match self {
+            WriteFault::Short => 5,
+        }
+    }
 }
 
 // How many bytes the varint of a number has.
