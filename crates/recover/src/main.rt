@@ -55,7 +55,7 @@ fn run(rt: &LibcRuntime, request: &Request) -> Result<(), Refusal> {
 
 fn start(rt: &LibcRuntime) -> Result<(), Refusal> {
     let words = words(rt)?;
-    if words.len() == 2 && words[1].as_str() == "--help" {
+    if words.len() == 2 && (words[1].as_str() == "--help" || words[1].as_str() == "-h") {
         rt.println(HELP)?;
         return Ok(());
     }

@@ -1,4 +1,6 @@
 // Why the program refuses, by number and in words.
+ghost use mathlib.Core.Path.{_≡_};
+ghost use Rattle.recover.specs.Refusals.{numberOf};
 use policy::PolicyFault;
 use rebuild::RebuildFault;
 use std::alloc::AllocError;
@@ -16,31 +18,42 @@ pub(crate) enum Refusal {
     File,
 }
 
+impl Refusal {
+    pub(crate) fn number(self) -> u8
+        ensures { λ r. ⌜ r ≡ numberOf self ⌝ }
+    {
+        match self {
+            Refusal::Usage => 40,
+            Refusal::Policy(fault) => fault.number(),
+            Refusal::Rebuild(fault) => fault.number(),
+            Refusal::File => 30,
+        }
+    }
+}
+
 pub(crate) impl fmt::Display for Refusal as RefusalDisplay {
     fn fmt<W: fmt::Write>(&self, f: &mut fmt::Formatter<W>) -> fmt::Result {
+        let number = self.number();
+        write!(f, "refused {number}: ")?;
         match *self {
             Refusal::Usage => f.write_str("the command line has another form: see recover --help"),
             Refusal::Policy(PolicyFault::Unknown) => f.write_str(
-                "refused 1: the policy, its id or its codec is unknown",
+                "the policy, its id or its codec is unknown",
             ),
-            Refusal::Policy(PolicyFault::Limit) => f.write_str(
-                "refused 2: the scheme breaks a limit",
-            ),
+            Refusal::Policy(PolicyFault::Limit) => f.write_str("the scheme breaks a limit"),
             Refusal::Rebuild(RebuildFault::Block) => f.write_str(
-                "refused 3: the block is longer than 2^40 bytes",
+                "the block is longer than 2^40 bytes",
             ),
             Refusal::Rebuild(RebuildFault::TooFew { row, cells }) => write!(
                 f,
-                "refused 7: row {row} has only {cells} cells"
+                "row {row} has only {cells} cells"
             ),
             Refusal::Rebuild(RebuildFault::Legacy { row }) => write!(
                 f,
-                "refused 8: row {row} lacks a data cell, and the old codec makes none again"
+                "row {row} lacks a data cell, and the old codec makes none again"
             ),
-            Refusal::Rebuild(RebuildFault::Memory) => f.write_str(
-                "refused 9: there is no memory for it",
-            ),
-            Refusal::File => f.write_str("refused 30: a file or folder cannot be read or written"),
+            Refusal::Rebuild(RebuildFault::Memory) => f.write_str("there is no memory for it"),
+            Refusal::File => f.write_str("a file or folder cannot be read or written"),
         }
     }
 }

@@ -15,32 +15,29 @@ fn words(heap: Global, option: &str, value: &str, len: &str) -> Result<Vec<Strin
     Ok(words)
 }
 
-// The number of the refusal, and 0 for a command line of another form; 99 where it is taken up.
+// The number of the refusal; 0 where the command line is taken up.
 fn refused(heap: Global, option: &str, value: &str, len: &str) -> Result<u8, AllocError> {
     let words = words(heap, option, value, len)?;
     match read_request(heap, words.as_slice()) {
-        Ok(_) => Ok(99),
-        Err(Refusal::Usage) => Ok(0),
-        Err(Refusal::Policy(fault)) => Ok(fault.number()),
-        Err(Refusal::Rebuild(fault)) => Ok(fault.number()),
-        Err(Refusal::File) => Ok(30),
+        Ok(_) => Ok(0),
+        Err(refusal) => Ok(refusal.number()),
     }
 }
 
 // An option, its value and a length, and what comes of them.
 const CASES: [(&str, &str, &str, u8); 12] = [
-    ("--policy", "RS-3-2-1024k", "1000", 99),
+    ("--policy", "RS-3-2-1024k", "1000", 0),
     ("--policy", "RS-3-2-1024K", "1000", 1),
-    ("--id", "5", "1000", 99),
+    ("--id", "5", "1000", 0),
     ("--id", "6", "1000", 1),
-    ("--schema", "rs,6,3,64", "1000", 99),
+    ("--schema", "rs,6,3,64", "1000", 0),
     ("--schema", "rs,9,8,64", "1000", 2),
     ("--schema", "xor,2,2,64", "1000", 2),
     ("--schema", "rs,6,3,0", "1000", 2),
     ("--schema", "lrc,6,3,64", "1000", 1),
-    ("--schema", "rs,6,3", "1000", 0),
-    ("--schema", "rs,6,3,64", "-1", 0),
-    ("--scheme", "rs,6,3,64", "1000", 0),
+    ("--schema", "rs,6,3", "1000", 40),
+    ("--schema", "rs,6,3,64", "-1", 40),
+    ("--scheme", "rs,6,3,64", "1000", 40),
 ];
 
 #[test]
