@@ -18,7 +18,7 @@ use Rattle.algebra.proofs.Steps.{step_to, step_from, step_reduced}
 
 module _ {F : Type 0} {K : Ops F} (L : FieldLaws K) where
   open K use {zero as O, one as I, plus as ◌⊕◌, minus as ◌⊖◌, times as ◌⊗◌, inverse as inv}
-  open L use {plus_zero, plus_comm, minus_plus, times_one, times_assoc, times_plus, times_inverse, one_not_zero, zero-or_not}
+  open L use {plus_zero, plus_comm, minus_plus, times_one, times_assoc, times_plus, times_inverse, one_not_zero, zero_or_not}
 
   infixl 60 ◌⊕◌
   infixl 60 ◌⊖◌
@@ -183,7 +183,7 @@ module _ {F : Type 0} {K : Ops F} (L : FieldLaws K) where
   find : (k : ℕ) (w : ℕ → ℕ → F) (n : ℕ) → Pivot k w n ⊎ ((r : ℕ) → k ≤ r → r < n → w r k ≡ O)
   unfolding Pivot
   find k w zero = inr (λ r h l. absurd (not-suc-le-zero l))
-  find k w (suc n) = ⊎_elim (λ q. inl (q.0, q.1, omega arith, q.3)) (λ none. ⊎_elim (λ l. inr (λ r i j. absurd (omega arith))) (λ h. ⊎_elim (λ e. inr (λ r i l. below_next (λ r. k ≤ r → w r k ≡ O) n (λ r l i. none r i l) (λ i. e) r l i)) (λ ne. inl (n, h, omega arith, ne)) (zero-or_not (w n k))) (less_or_not n k)) (find k w n)
+  find k w (suc n) = ⊎_elim (λ q. inl (q.0, q.1, omega arith, q.3)) (λ none. ⊎_elim (λ l. inr (λ r i j. absurd (omega arith))) (λ h. ⊎_elim (λ e. inr (λ r i l. below_next (λ r. k ≤ r → w r k ≡ O) n (λ r l i. none r i l) (λ i. e) r l i)) (λ ne. inl (n, h, omega arith, ne)) (zero_or_not (w n k))) (less_or_not n k)) (find k w n)
 
   run : (n : ℕ) (a : ℕ → ℕ → F) (left k : ℕ) (w : ℕ → ℕ → F) → k + left ≡ n → SameKernel K n (n + n) (widened K n a) w → Reduced K n k w → ((b : ℕ → ℕ → F) × Inverse K n a b) ⊎ Singular K n a
   unfolding Pivot

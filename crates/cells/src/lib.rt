@@ -1,3 +1,4 @@
+#![tactic(auto)]
 // Which cell, row and shard each byte of a striped block is in, how long the shards are, and what a row has of a range.
 //
 //   d = 3, p = 2, s = 4, a block of 30 bytes:

@@ -1,3 +1,4 @@
+#![tactic(auto)]
 // Checksums of bytes, CRC32 and CRC32C, of a whole slice or of one slice after another.
 mod kind;
 mod register;

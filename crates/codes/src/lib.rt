@@ -1,3 +1,4 @@
+#![tactic(auto)]
 // Erasure codes: each names its field and its generator matrix, of which any data_units rows have an inverse.
 mod code;
 mod fault;

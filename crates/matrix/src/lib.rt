@@ -1,3 +1,4 @@
+#![tactic(auto)]
 // Matrices over any field, in slices that a caller lends: their product, their inverse, and what they make of cells of bytes.
 mod action;
 mod elimination;

@@ -1,3 +1,4 @@
+#![tactic(auto)]
 // Erasure coding schemes: the limits that each one keeps, Hadoop's five policies, and how a policy that is sent becomes a scheme.
 mod codec;
 mod fault;

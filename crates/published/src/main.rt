@@ -1,3 +1,4 @@
+#![tactic(auto)]
 // The published values by the calls of the library, held to a stored list; that the definitions give them is proved.
 ghost use Rattle.std.specs.Prelude.{◌≡◌};
 ghost use Rattle.published.specs.Published.{PublishedValues, count_of};

@@ -1,3 +1,4 @@
+#![tactic(auto)]
 // Puts a block together again from those of its shards that are held.
 //
 //   d = 3, p = 2, s = 4, a block of 30 bytes, shards 1 and 2 lost:

@@ -1,3 +1,4 @@
+#![tactic(auto)]
 // Puts a block together again from the files of its shards, and prints an account of it.
 mod account;
 mod refusal;

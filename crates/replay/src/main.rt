@@ -1,3 +1,4 @@
+#![tactic(auto)]
 // Asks the library what other programs were asked about codes and schemes, and counts how many answers agree.
 mod ask;
 mod fault;

@@ -1,3 +1,4 @@
+#![tactic(auto)]
 // Rows of cells under a code: parity made from the data cells, and missing data cells made again from those that are there.
 mod fault;
 mod missing;

@@ -1,3 +1,4 @@
+#![tactic(auto)]
 // Fields of a protobuf message, read one at a time from a place in it, and varints as they are written.
 //
 //   08 96 01                       field 1, varint 150

@@ -7,10 +7,10 @@ use Rattle.cells.proofs.places.locate.Goals as goal
 
 pub returns : goal.returns
 returns c =
-    let cell : c.cell-for-offset-cell.result ≡ cell_of c.args.schema.cell_size c.args.offset = cc in
-    let row : c.row-for-cell.result ≡ row_of c.args.schema.data_units (cell_of c.args.schema.cell_size c.args.offset) = cc in
-    let shard : c.shard-for-cell.result ≡ shard_of c.args.schema.data_units (cell_of c.args.schema.cell_size c.args.offset) = cc in
-    let place : c.place-in-shard.result ≡ shard_place c.args.schema.data_units c.args.schema.cell_size c.args.offset = cc in
+    let cell : c.cell_for_offset-cell.result ≡ cell_of c.args.schema.cell_size c.args.offset = cc in
+    let row : c.row_for_cell.result ≡ row_of c.args.schema.data_units (cell_of c.args.schema.cell_size c.args.offset) = cc in
+    let shard : c.shard_for_cell.result ≡ shard_of c.args.schema.data_units (cell_of c.args.schema.cell_size c.args.offset) = cc in
+    let place : c.place_in_shard.result ≡ shard_place c.args.schema.data_units c.args.schema.cell_size c.args.offset = cc in
     record {
       value = search rules;
       placed = λ block h. rw (cell, row, shard, place) (placed c.args.schema.data_units c.args.schema.cell_size block (omega arith) (omega arith) c.args.offset h);

@@ -10,9 +10,9 @@ stretches-requires c = omega (arith, row_pos c.args.schema.data_units c.args.sch
 
 pub returns : goal.returns
 returns c =
-    let count : c.stretches.result ≡ rows_of c.args.schema.data_units c.args.schema.cell_size c.args.block-len = cc in
+    let count : c.stretches.result ≡ rows_of c.args.schema.data_units c.args.schema.cell_size c.args.block_len = cc in
     record {
       value = count;
-      least = rw count (rows_least c.args.schema.data_units c.args.schema.cell_size c.args.block-len (omega arith) (omega arith));
+      least = rw count (rows_least c.args.schema.data_units c.args.schema.cell_size c.args.block_len (omega arith) (omega arith));
       rows_are_block = λ block h. rw (count, ← h) (rows_are_block c.args.schema.data_units c.args.schema.cell_size block (omega arith) (omega arith));
     }

@@ -24,7 +24,7 @@ divides k xs r h e =
 
 pub returns : goal.returns
 returns c = record {
-  turns-the-register = refl;
-  sums-the-bytes = λ k xs e. sums k xs c.args.register e;
-  leaves-the-remainder = λ k xs e. divides k xs c.args.register (omega arith) e;
+  turns_the_register = refl;
+  sums_the_bytes = λ k xs e. sums k xs c.args.register e;
+  leaves_the_remainder = λ k xs e. divides k xs c.args.register (omega arith) e;
 }

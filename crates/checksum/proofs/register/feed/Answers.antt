@@ -13,7 +13,7 @@ loop-byte-preserved c =
     let i = c.loop-byte.byte-index in
     let g = generator c.args.kind in
     let h : i < length bytes = omega arith in
-    ap (λ (r : ℕ). fed g r (drop (i + 1) bytes)) c.feed-byte-register.ensures
+    ap (λ (r : ℕ). fed g r (drop (i + 1) bytes)) c.feed_byte-register.ensures
     ∙ sym (at_drop_more (fed g c.loop-byte.register) bytes i 0 h)
     ∙ c.loop-byte.invariant
 
@@ -23,8 +23,8 @@ returns c =
     sym (at_drop_all (fed (generator c.args.kind) c.loop-byte.register) c.args.bytes.now c.loop-byte.byte-index (omega arith))
     ∙ c.loop-byte.invariant
     in record {
-      takes-the-bytes-in = all;
-      joins-the-bytes = λ k xs same e.
+      takes_the_bytes_in = all;
+      joins_the_bytes = λ k xs same e.
           all ∙ ap₂ (λ (k : Checksum) (r : ℕ). fed (generator k) r c.args.bytes.now) same e
           ∙ sym (fed_append (generator k) ones xs c.args.bytes.now);
     }

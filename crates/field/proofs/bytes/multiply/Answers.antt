@@ -17,18 +17,18 @@ half n i h l =
 
 pub loop-i-preserved : goal.loop-i-preserved
 loop-i-preserved c = (
-  ap₂ (λ (u v : ℕ). bit_xor (bit_xor c.loop-i.sum u) (product v (c.loop-i.rest / 2))) c.where-odd-sum.ensures c.doubled-shifted.ensures
+  ap₂ (λ (u v : ℕ). bit_xor (bit_xor c.loop-i.sum u) (product v (c.loop-i.rest / 2))) c.where_odd-sum.ensures c.doubled-shifted.ensures
       ∙ xor_assoc c.loop-i.sum _ _
       ∙ ap (bit_xor c.loop-i.sum) (sym (product_step c.loop-i.shifted c.loop-i.rest (omega arith) (omega arith)))
       ∙ c.loop-i.invariant.0,
-  half c.loop-i.rest c.loop-i.-i (omega arith) c.loop-i.invariant.1,
+  half c.loop-i.rest c.loop-i._i (omega arith) c.loop-i.invariant.1,
   omega arith,
   omega arith,
 )
 
 pub returns : goal.returns
 returns c =
-    let e : 8 - c.loop-i.-i ≡ 0 = omega arith in
+    let e : 8 - c.loop-i._i ≡ 0 = omega arith in
     let l : c.loop-i.rest < 2 ^ 0 = subst (λ (k : ℕ). c.loop-i.rest < 2 ^ k) e c.loop-i.invariant.1 in
     let z : c.loop-i.rest ≡ 0 = omega arith in
     let done : c.loop-i.sum ≡ product c.args.a c.args.b =

@@ -15,8 +15,8 @@ pub loop-i-preserved : goal.loop-i-preserved
 loop-i-preserved g c =
     let K = g.F.Field.ops in
     let i = c.loop-i.i in
-    let s = c.args.cell-size in
-    row_more s c.args.target _ _ i c.mix-byte-byte.result _ _ (omega arith) c.loop-i.invariant
-    (put_set 0 s c.args.target i c.byte-place-at.result c.mix-byte-byte.result c.loop-i.cells (omega arith) c.byte-place-at.ensures.value c.byte-place-at.ensures.bound)
-    (c.mix-byte-byte.ensures
+    let s = c.args.cell_size in
+    row_more s c.args.target _ _ i c.mix_byte-byte.result _ _ (omega arith) c.loop-i.invariant
+    (put_set 0 s c.args.target i c.byte_place-at.result c.mix_byte-byte.result c.loop-i.cells (omega arith) c.byte_place-at.ensures.value c.byte_place-at.ensures.bound)
+    (c.mix_byte-byte.ensures
     ∙ mixed_same g.met.F.Field.field c.args.sides.cols _ _ _ (λ k l. due s i c.args.target _ _ _ (omega arith) c.loop-i.invariant (get_or c.args.sources.now k 0)))

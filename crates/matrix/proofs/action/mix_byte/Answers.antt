@@ -11,5 +11,5 @@ pub loop-k-preserved : goal.loop-k-preserved
 loop-k-preserved g c =
     let K = g.F.Field.ops in
     ap₂ bit_xor c.loop-k.invariant
-    (c.act_sum.ensures ∙ ap₂ (λ (x : g.row.F.Denot) (i : ℕ). K.act x (get_or c.args.cells.now i 0)) c.entry-x.ensures c.byte-place-at.ensures.value)
+    (c.act-sum.ensures ∙ ap₂ (λ (x : g.row.F.Denot) (i : ℕ). K.act x (get_or c.args.cells.now i 0)) c.entry-x.ensures c.byte_place-at.ensures.value)
     ∙ xors_more c.loop-k.k _

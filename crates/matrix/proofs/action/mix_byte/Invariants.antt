@@ -6,4 +6,4 @@ use Rattle.matrix.proofs.action.mix_byte.Given as goal
 abbrev pub invariant-loop-k : goal.invariant-loop-k
 invariant-loop-k g l =
     let K = g.F.Field.ops in
-    l.sum ≡ mixed K l.k (grid K.zero l.sides.cols l.m l.row) (λ k. grid 0 l.cell-size l.cells (get_or l.sources k 0) l.i)
+    l.sum ≡ mixed K l.k (grid K.zero l.sides.cols l.m l.row) (λ k. grid 0 l.cell_size l.cells (get_or l.sources k 0) l.i)

@@ -3,7 +3,7 @@ use Rattle.matrix.proofs.Grids.{rows_more, beyond_list}
 use Rattle.matrix.proofs.product.multiply_fitting.Goals as goal
 
 pub loop-r-preserved : goal.loop-r-preserved
-loop-r-preserved g c = rows_more _ c.loop-r.r _ _ _ _ c.loop-r.invariant c.multiply-row.ensures
+loop-r-preserved g c = rows_more _ c.loop-r.r _ _ _ _ c.loop-r.invariant c.multiply_row.ensures
 
 pub returns : goal.returns
 returns g c = let some = c.requires.cols.0 in (

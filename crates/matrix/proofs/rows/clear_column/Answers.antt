@@ -12,6 +12,6 @@ loop-r-preserved g c =
     ClearTo K c.args.cols (c.loop-r.r + 1) c.args.k (grid K.zero c.args.cols c.args.m.now) (grid K.zero c.args.cols m) in
     elim c.if-r-k.branch [
       | then-r-k w ↦ subst P (sym w.m-is)
-          (clear_more K c.args.cols c.args.k (omega arith) _ c.loop-r.r w.entry-by.result _ _ w.if-r-k.true c.loop-r.invariant w.entry-by.ensures w.subtract-row.ensures)
+          (clear_more K c.args.cols c.args.k (omega arith) _ c.loop-r.r w.entry-by.result _ _ w.if-r-k.true c.loop-r.invariant w.entry-by.ensures w.subtract_row.ensures)
       | else-r-k w ↦ subst P (sym w.m-is) (clear_over K c.args.cols c.args.k (omega arith) _ c.loop-r.r _ w.if-r-k.false c.loop-r.invariant)
     ]

@@ -6,31 +6,31 @@ use Rattle.rebuild.specs.Held.{held_in}
 use Rattle.rebuild.proofs.DealtBlock.{answer_is_dealt}
 use Rattle.rebuild.proofs.block.rebuild.Goals as goal
 
-pub add-rows-requires : goal.add-rows-requires
-add-rows-requires c =
-    let long = c.as-mut-slice.ensures.len in
-    let made = c.in-ok-buffer.ensures.len in
-    (omega arith, (omega arith, c.in-ok-block.ensures.items))
+pub add_rows-requires : goal.add_rows-requires
+add_rows-requires c =
+    let long = c.as_mut_slice.ensures.len in
+    let made = c.in_ok-buffer.ensures.len in
+    (omega arith, (omega arith, c.in_ok-block.ensures.items))
 
-pub returns-in-err-buffer : goal.returns-in-err-buffer
-returns-in-err-buffer c =
+pub returns-in_err-buffer : goal.returns-in_err-buffer
+returns-in_err-buffer c =
     let p = err_from_is_err_and c.from-residual.result c.from-residual.ensures.1 in
-    record { from-the-shards-held = rw (p.1, p.2) (omega arith); the-block-dealt = rw p.1 tt }
+    record { from_the_shards_held = rw (p.1, p.2) (omega arith); the_block_dealt = rw p.1 tt }
 
-pub returns-in-err-block : goal.returns-in-err-block
-returns-in-err-block c =
-    let p = err_from_is_err_and c.from-residual-in-err-block.result c.from-residual-in-err-block.ensures.1 in
-    record { from-the-shards-held = rw (p.1, p.2) (omega arith); the-block-dealt = rw p.1 tt }
+pub returns-in_err-block : goal.returns-in_err-block
+returns-in_err-block c =
+    let p = err_from_is_err_and c.from-residual-in_err-block.result c.from-residual-in_err-block.ensures.1 in
+    record { from_the_shards_held = rw (p.1, p.2) (omega arith); the_block_dealt = rw p.1 tt }
 
-pub returns-in-err-add-rows : goal.returns-in-err-add-rows
-returns-in-err-add-rows c =
-    let p = err_from_is_err_and c.from-residual-in-err-add-rows.result c.from-residual-in-err-add-rows.ensures.1 in
-    record { from-the-shards-held = rw (p.1, p.2) c.in-err-add-rows.ensures; the-block-dealt = rw p.1 tt }
+pub returns-in_err-add_rows : goal.returns-in_err-add_rows
+returns-in_err-add_rows c =
+    let p = err_from_is_err_and c.from-residual-in_err-add_rows.result c.from-residual-in_err-add_rows.ensures.1 in
+    record { from_the_shards_held = rw (p.1, p.2) c.in_err-add_rows.ensures; the_block_dealt = rw p.1 tt }
 
 pub returns : goal.returns
 returns c =
-    let r = c.in-ok-add-rows.ensures in
+    let r = c.in_ok-add_rows.ensures in
     record {
-      from-the-shards-held = r;
-      the-block-dealt = answer_is_dealt c.args.schema c.args.block-len (held_in c.args.shards.now) (vec_items c.add-rows.new.block) r;
+      from_the_shards_held = r;
+      the_block_dealt = answer_is_dealt c.args.schema c.args.block_len (held_in c.args.shards.now) (vec_items c.add_rows.new.block) r;
     }

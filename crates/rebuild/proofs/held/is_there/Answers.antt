@@ -19,16 +19,16 @@ pub returns-else-index-schema : goal.returns-else-index-schema
 returns-else-index-schema c =
     let s = c.args.schema in
     let held = held_in c.args.shards.now in
-    past c.args.index (s.data_units + s.parity_units) (is_some (whole_at s.data_units s.parity_units s.cell_size c.args.block-len held c.args.index)) (own_len_of s.data_units s.parity_units s.cell_size c.args.block-len c.args.index c.args.row) c.if-index-schema.false
+    past c.args.index (s.data_units + s.parity_units) (is_some (whole_at s.data_units s.parity_units s.cell_size c.args.block_len held c.args.index)) (own_len_of s.data_units s.parity_units s.cell_size c.args.block_len c.args.index c.args.row) c.if-index-schema.false
 
-pub returns-then-is-whole : goal.returns-then-is-whole
-returns-then-is-whole c =
+pub returns-then-is_whole : goal.returns-then-is_whole
+returns-then-is_whole c =
     let s = c.args.schema in
     let held = held_in c.args.shards.now in
-    held_whole c.args.index (s.data_units + s.parity_units) c.is-whole.result (is_some (whole_at s.data_units s.parity_units s.cell_size c.args.block-len held c.args.index)) (own_len_of s.data_units s.parity_units s.cell_size c.args.block-len c.args.index c.args.row) c.if-index-schema.true c.is-whole.ensures c.if-is-whole.true
+    held_whole c.args.index (s.data_units + s.parity_units) c.is_whole.result (is_some (whole_at s.data_units s.parity_units s.cell_size c.args.block_len held c.args.index)) (own_len_of s.data_units s.parity_units s.cell_size c.args.block_len c.args.index c.args.row) c.if-index-schema.true c.is_whole.ensures c.if-is_whole.true
 
-pub returns-else-is-whole : goal.returns-else-is-whole
-returns-else-is-whole c =
+pub returns-else-is_whole : goal.returns-else-is_whole
+returns-else-is_whole c =
     let s = c.args.schema in
     let held = held_in c.args.shards.now in
-    not_whole c.args.index (s.data_units + s.parity_units) c.is-whole.result (is_some (whole_at s.data_units s.parity_units s.cell_size c.args.block-len held c.args.index)) c.own-len.result (own_len_of s.data_units s.parity_units s.cell_size c.args.block-len c.args.index c.args.row) c.if-index-schema.true c.is-whole.ensures c.if-is-whole.false c.own-len.ensures.value
+    not_whole c.args.index (s.data_units + s.parity_units) c.is_whole.result (is_some (whole_at s.data_units s.parity_units s.cell_size c.args.block_len held c.args.index)) c.own_len.result (own_len_of s.data_units s.parity_units s.cell_size c.args.block_len c.args.index c.args.row) c.if-index-schema.true c.is_whole.ensures c.if-is_whole.false c.own_len.ensures.value

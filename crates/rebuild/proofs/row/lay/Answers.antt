@@ -15,6 +15,6 @@ returns c =
     let k : a + s - a ≡ s = omega arith in
     let m : a + length bytes - a ≡ length bytes = omega arith in
     record {
-      here = laid_here xs c.fill.new.self c.copy-from-slice.new.self bytes a s (a + s - a) (a + length bytes - a) c.requires.0 c.requires.1 k m zeros c.copy-from-slice.ensures.after;
-      elsewhere = laid_elsewhere xs c.fill.new.self c.copy-from-slice.new.self bytes a s (a + s - a) (a + length bytes - a) c.requires.0 c.requires.1 k m zeros c.copy-from-slice.ensures.after;
+      here = laid_here xs c.fill.new.self c.copy_from_slice.new.self bytes a s (a + s - a) (a + length bytes - a) c.requires.0 c.requires.1 k m zeros c.copy_from_slice.ensures.after;
+      elsewhere = laid_elsewhere xs c.fill.new.self c.copy_from_slice.new.self bytes a s (a + s - a) (a + length bytes - a) c.requires.0 c.requires.1 k m zeros c.copy_from_slice.ensures.after;
     }

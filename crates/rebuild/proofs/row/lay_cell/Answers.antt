@@ -9,14 +9,14 @@ pub lay-requires : goal.lay-requires
 lay-requires c =
     let s = c.args.schema in
     let h = row_after s.cell_size c.args.index (units s) c.requires.0 in
-    (omega arith, c.own-bytes-bytes.ensures.within)
+    (omega arith, c.own_bytes-bytes.ensures.within)
 
 pub returns : goal.returns
 returns c =
     let s = c.args.schema.cell_size in
     let i = c.args.index in
     record {
-      this = λ j h. c.lay.ensures.here j h ∙ c.own-bytes-bytes.ensures.bytes j h;
+      this = λ j h. c.lay.ensures.here j h ∙ c.own_bytes-bytes.ensures.bytes j h;
       others = λ r j h other. c.lay.ensures.elsewhere (r * s + j) (⊎_elim
           (λ (e : r ≡ c.args.index). absurd (other e))
           (λ o. ⊎_elim

@@ -9,29 +9,29 @@ use Rattle.rebuild.proofs.row.own_bytes.Goals as goal
 pub returns-then-own-eq0 : goal.returns-then-own-eq0
 returns-then-own-eq0 c =
     let e = c.args.schema in
-    let none : 0 ≡ min e.cell_size (shard_len e.data_units e.parity_units e.cell_size c.args.block-len c.args.index - row_place e.cell_size c.args.row) =
-    sym c.if-own-eq0.true ∙ c.own-len-own.ensures.of-its-shard in
+    let none : 0 ≡ min e.cell_size (shard_len e.data_units e.parity_units e.cell_size c.args.block_len c.args.index - row_place e.cell_size c.args.row) =
+    sym c.if-own-eq0.true ∙ c.own_len-own.ensures.of_its_shard in
     record {
       within = omega arith;
-      bytes = own_is e.data_units e.parity_units e.cell_size c.args.block-len (held_in c.args.shards.now) c.args.row c.args.index c.in-Some.bytes.now 0 e.some_bytes (sym c.in-Some.ensures) none;
+      bytes = own_is e.data_units e.parity_units e.cell_size c.args.block_len (held_in c.args.shards.now) c.args.row c.args.index c.in-Some.bytes.now 0 e.some_bytes (sym c.in-Some.ensures) none;
     }
 
-pub overflow-mul-from : goal.overflow-mul-from
-overflow-mul-from c =
+pub overflow_mul-from : goal.overflow_mul-from
+overflow_mul-from c =
     let e = c.args.schema in
-    let h = own_within e.data_units e.parity_units e.cell_size c.args.block-len (held_in c.args.shards.now) c.args.row c.args.index c.in-Some.bytes.now c.own-len-own.result e.some_bytes (sym c.in-Some.ensures) c.own-len-own.ensures.of-its-shard e.some_data c.if-own-eq0.false in
+    let h = own_within e.data_units e.parity_units e.cell_size c.args.block_len (held_in c.args.shards.now) c.args.row c.args.index c.in-Some.bytes.now c.own_len-own.result e.some_bytes (sym c.in-Some.ensures) c.own_len-own.ensures.of_its_shard e.some_data c.if-own-eq0.false in
     omega arith
 
-pub overflow-add-result : goal.overflow-add-result
-overflow-add-result c =
+pub overflow_add-result : goal.overflow_add-result
+overflow_add-result c =
     let e = c.args.schema in
-    let h = own_within e.data_units e.parity_units e.cell_size c.args.block-len (held_in c.args.shards.now) c.args.row c.args.index c.in-Some.bytes.now c.own-len-own.result e.some_bytes (sym c.in-Some.ensures) c.own-len-own.ensures.of-its-shard e.some_data c.if-own-eq0.false in
+    let h = own_within e.data_units e.parity_units e.cell_size c.args.block_len (held_in c.args.shards.now) c.args.row c.args.index c.in-Some.bytes.now c.own_len-own.result e.some_bytes (sym c.in-Some.ensures) c.own_len-own.ensures.of_its_shard e.some_data c.if-own-eq0.false in
     omega arith
 
 pub slice-bounds-result-end-2 : goal.slice-bounds-result-end-2
 slice-bounds-result-end-2 c =
     let e = c.args.schema in
-    let h = own_within e.data_units e.parity_units e.cell_size c.args.block-len (held_in c.args.shards.now) c.args.row c.args.index c.in-Some.bytes.now c.own-len-own.result e.some_bytes (sym c.in-Some.ensures) c.own-len-own.ensures.of-its-shard e.some_data c.if-own-eq0.false in
+    let h = own_within e.data_units e.parity_units e.cell_size c.args.block_len (held_in c.args.shards.now) c.args.row c.args.index c.in-Some.bytes.now c.own_len-own.result e.some_bytes (sym c.in-Some.ensures) c.own_len-own.ensures.of_its_shard e.some_data c.if-own-eq0.false in
     search rules
 
 pub returns : goal.returns
@@ -39,12 +39,12 @@ returns c =
     let e = c.args.schema in
     let s = e.cell_size in
     let from = c.args.row * s in
-    let own = c.own-len-own.result in
-    let cut : c.args.row * e.cell_size + c.own-len-own.result - c.args.row * e.cell_size ≡ c.own-len-own.result = omega arith in
-    let short : c.own-len-own.result ≤ e.cell_size = (let z = c.own-len-own.ensures.of-its-shard in omega arith) in
+    let own = c.own_len-own.result in
+    let cut : c.args.row * e.cell_size + c.own_len-own.result - c.args.row * e.cell_size ≡ c.own_len-own.result = omega arith in
+    let short : c.own_len-own.result ≤ e.cell_size = (let z = c.own_len-own.ensures.of_its_shard in omega arith) in
     record {
       within = simp length-take (omega arith);
       bytes = λ j h.
           ap (λ (n : ℕ). get_or (take n (drop from c.in-Some.bytes.now)) j 0) cut
-          ∙ own_is e.data_units e.parity_units s c.args.block-len (held_in c.args.shards.now) c.args.row c.args.index c.in-Some.bytes.now own e.some_bytes (sym c.in-Some.ensures) c.own-len-own.ensures.of-its-shard j h;
+          ∙ own_is e.data_units e.parity_units s c.args.block_len (held_in c.args.shards.now) c.args.row c.args.index c.in-Some.bytes.now own e.some_bytes (sym c.in-Some.ensures) c.own_len-own.ensures.of_its_shard j h;
     }

@@ -8,19 +8,19 @@ pub returns-in-Ok : goal.returns-in-Ok
 returns-in-Ok c =
     let e = c.args.schema in
     let r = c.in-Ok.ensures in
-    row_made e c.args.block-len (held_in c.args.shards.now) c.args.row c.cells-there-there.result c.lay-row.new.buffer c.recover.new.row c.cells-there-there.ensures.each-flag c.in-Ok.field-0
-    c.lay-row.ensures (λ q i. (c.type-inv.buffer (q * e.cell_size + i)).fits) r.from-the-lowest-there r.the-cells-dealt
+    row_made e c.args.block_len (held_in c.args.shards.now) c.args.row c.cells_there-there.result c.lay_row.new.buffer c.recover.new.row c.cells_there-there.ensures.each_flag c.in-Ok.field-0
+    c.lay_row.ensures (λ q i. (c.type-inv.buffer (q * e.cell_size + i)).fits) r.from_the_lowest_there r.the_cells_dealt
 
 pub returns-in-TooFew : goal.returns-in-TooFew
 returns-in-TooFew c = (
   refl,
-  row_short c.args.schema c.args.block-len (held_in c.args.shards.now) c.args.row c.cells-there-there.result c.lay-row.new.buffer c.recover.new.row c.cells-there-there.ensures.each-flag c.in-Err.fault c.in-TooFew.cells c.in-TooFew.is
-      c.in-Err.ensures.from-the-lowest-there,
+  row_short c.args.schema c.args.block_len (held_in c.args.shards.now) c.args.row c.cells_there-there.result c.lay_row.new.buffer c.recover.new.row c.cells_there-there.ensures.each_flag c.in-Err.fault c.in-TooFew.cells c.in-TooFew.is
+      c.in-Err.ensures.from_the_lowest_there,
 )
 
 pub returns-in-Legacy : goal.returns-in-Legacy
 returns-in-Legacy c = (
   refl,
-  row_old c.args.schema c.args.block-len (held_in c.args.shards.now) c.args.row c.cells-there-there.result c.lay-row.new.buffer c.recover.new.row c.cells-there-there.ensures.each-flag c.in-Err.fault c.in-Legacy.is
-      c.in-Err.ensures.from-the-lowest-there,
+  row_old c.args.schema c.args.block_len (held_in c.args.shards.now) c.args.row c.cells_there-there.result c.lay_row.new.buffer c.recover.new.row c.cells_there-there.ensures.each_flag c.in-Err.fault c.in-Legacy.is
+      c.in-Err.ensures.from_the_lowest_there,
 )

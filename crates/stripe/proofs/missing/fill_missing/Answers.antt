@@ -12,7 +12,7 @@ use Rattle.stripe.proofs.missing.fill_missing.Goals.{then-not-there-c+in-Ok, els
 
 pub unreachable-requires : goal.unreachable-requires
 unreachable-requires g c =
-    acts g.F.Field.ops c.args.inverse.now _ c.loop-c.c c.args.chosen.now c.args.s c.loop-c.c c.loop-c.row c.act-on-cells.new.cells c.in-default.field-0 c.in-default.ensures (record {
+    acts g.F.Field.ops c.args.inverse.now _ c.loop-c.c c.args.chosen.now c.args.s c.loop-c.c c.loop-c.row c.act_on_cells.new.cells c.in_default.field-0 c.in_default.ensures (record {
       rows = (omega arith, omega arith);
       cols = (omega arith, omega arith);
       matrix = omega arith;

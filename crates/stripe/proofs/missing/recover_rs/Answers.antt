@@ -2,8 +2,8 @@ use Rattle.std.proofs.Common.{ℕ, ◌+◌, ◌*◌, ◌≤◌, arith}
 use Rattle.stripe.proofs.Acting.{matrix_room, square_room, wide_room}
 use Rattle.stripe.proofs.missing.recover_rs.Goals as goal
 
-pub recover-by-requires : goal.recover-by-requires
-recover-by-requires c =
+pub recover_by-requires : goal.recover_by-requires
+recover_by-requires c =
     let s = c.args.schema in
     let d = s.data_units in
     let p = s.parity_units in

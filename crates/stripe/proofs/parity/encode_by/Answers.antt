@@ -18,10 +18,10 @@ cells_test = tt
 cell_number : (k : ℕ) → k < 16 → get_or cells k 0 ≡ k
 cell_number k h = eqb→eq _ _ (below_at 16 (λ k. eqb (get_or cells k 0) k) cells_test k h)
 
-pub unreachable-requires-in-default-act-on-cells : goal.unreachable-requires-in-default-act-on-cells
+pub unreachable-requires-in_default-act_on_cells : goal.unreachable-requires-in_default-act_on_cells
 unfolding cells
-unreachable-requires-in-default-act-on-cells g c =
-    acts g.F.Field.ops c.matrix.new.out _ c.loop-r.r cells c.args.s c.loop-r.r c.loop-r.row c.act-on-cells.new.cells c.in-default-act-on-cells.field-0 c.in-default-act-on-cells.ensures (record {
+unreachable-requires-in_default-act_on_cells g c =
+    acts g.F.Field.ops c.matrix.new.out _ c.loop-r.r cells c.args.s c.loop-r.r c.loop-r.row c.act_on_cells.new.cells c.in_default-act_on_cells.field-0 c.in_default-act_on_cells.ensures (record {
       rows = (omega arith, omega arith);
       cols = (omega arith, omega arith);
       matrix = omega arith;
@@ -41,7 +41,7 @@ loop-r-preserved g c =
     let row : ℕ → g.row.C-F.Denot = grid K.zero d c.matrix.new.out c.loop-r.r in
     parity_more d c.loop-r.r c.args.s (λ r v. mixed K d (grid K.zero d c.matrix.new.out r) v) _ _ _ c.loop-r.auto.r (λ u v h. mixed_same L d row u v h) c.loop-r.invariant
     (row_same c.args.s c.loop-r.r _ (λ i. mixed K d row (λ k. grid 0 c.args.s c.loop-r.row k i)) _ _
-    (λ i l. mixed_same L d row _ _ (λ k o. ap (λ (j : ℕ). grid 0 c.args.s c.loop-r.row j i) (cell_number k (omega arith)))) c.in-Ok-act-on-cells.ensures.1)
+    (λ i l. mixed_same L d row _ _ (λ k o. ap (λ (j : ℕ). grid 0 c.args.s c.loop-r.row j i) (cell_number k (omega arith)))) c.in-Ok-act_on_cells.ensures.1)
 
 pub returns : goal.returns
 returns g c =

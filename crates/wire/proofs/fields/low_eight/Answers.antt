@@ -6,5 +6,5 @@ use Rattle.wire.proofs.fields.low_eight.Goals as goal
 
 pub returns : goal.returns
 returns c =
-    let is : c.from-le-bytes.result ≡ eight (drop c.args.at c.args.message.now) = simp (get_or-drop, add-zero) c.from-le-bytes.ensures in
+    let is : c.from_le_bytes.result ≡ eight (drop c.args.at c.args.message.now) = simp (get_or-drop, add-zero) c.from_le_bytes.ensures in
     is ∙ little_eight (drop c.args.at c.args.message.now)

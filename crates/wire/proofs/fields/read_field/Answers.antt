@@ -7,6 +7,6 @@ pub returns : goal.returns
 unfolding field_at
 returns c = search rules
 
-pub returns-in-err-key : goal.returns-in-err-key
+pub returns-in_err-key : goal.returns-in_err-key
 unfolding field_at
-returns-in-err-key c = search rules
+returns-in_err-key c = search rules

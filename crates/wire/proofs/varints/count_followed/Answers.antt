@@ -11,7 +11,7 @@ returns-then-at-n c =
       | goal.then-at-n-via-then-at-n w ↦ followed_end c.args.message.now (c.args.at + c.loop-n.n) (omega (arith, w.if-at-n.true))
       | goal.then-at-n-via-else-at-n+then-message-at-lt128 w ↦ followed_last c.args.message.now (c.args.at + c.loop-n.n) (omega (arith, w.if-at-n.false)) w.if-message-at-lt128.true
     ]
-    in record { counts = omega arith; stays-inside = omega arith }
+    in record { counts = omega arith; stays_inside = omega arith }
 
 pub loop-n-preserved : goal.loop-n-preserved
 loop-n-preserved c =

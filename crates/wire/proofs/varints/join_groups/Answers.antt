@@ -3,11 +3,11 @@ use Rattle.std.proofs.Common.{◌+◌, ◌-◌, drop, arith}
 use Rattle.wire.proofs.Groups.{joined_more, joined_fits}
 use Rattle.wire.proofs.varints.join_groups.Goals as goal
 
-pub overflow-mul-value : goal.overflow-mul-value
-overflow-mul-value c = omega (arith, c.loop-left.invariant.1, joined_fits (c.args.count - c.loop-left.left) (drop (c.args.at + c.loop-left.left) c.args.message.now) (omega arith))
+pub overflow_mul-value : goal.overflow_mul-value
+overflow_mul-value c = omega (arith, c.loop-left.invariant.1, joined_fits (c.args.count - c.loop-left.left) (drop (c.args.at + c.loop-left.left) c.args.message.now) (omega arith))
 
-pub overflow-add-value-in-loop-left : goal.overflow-add-value-in-loop-left
-overflow-add-value-in-loop-left c = omega (arith, c.loop-left.invariant.1, joined_fits (c.args.count - c.loop-left.left) (drop (c.args.at + c.loop-left.left) c.args.message.now) (omega arith))
+pub overflow_add-value-in-loop-left : goal.overflow_add-value-in-loop-left
+overflow_add-value-in-loop-left c = omega (arith, c.loop-left.invariant.1, joined_fits (c.args.count - c.loop-left.left) (drop (c.args.at + c.loop-left.left) c.args.message.now) (omega arith))
 
 pub loop-left-preserved : goal.loop-left-preserved
 loop-left-preserved c = (

@@ -4,7 +4,7 @@ use Rattle.wire.proofs.varints.read_varint.Goals as goal
 
 pub returns : goal.returns
 returns c = record {
-  reads-the-varint = c.varint-at.ensures.reads-the-varint;
-  reads_back = reads_back c.args.message.now c.args.at c.varint-at.result c.varint-at.ensures.reads-the-varint;
-  moves-on = c.varint-at.ensures.moves-on;
+  reads_the_varint = c.varint_at.ensures.reads_the_varint;
+  reads_back = reads_back c.args.message.now c.args.at c.varint_at.result c.varint_at.ensures.reads_the_varint;
+  moves_on = c.varint_at.ensures.moves_on;
 }

@@ -17,5 +17,5 @@ loop-left-preserved c =
 pub returns : goal.returns
 returns c = record {
   counts = omega (arith, ap length (groups_last (9 - c.loop-left.done) c.loop-left.left c.loop-left-test.false), c.loop-left.invariant.2);
-  at-most-ten = omega arith;
+  at_most_ten = omega arith;
 }

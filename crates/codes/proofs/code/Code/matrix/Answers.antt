@@ -6,11 +6,11 @@ use Rattle.matrix.specs.Grids.{grid}
 use Rattle.matrix.proofs.Grids.{beyond_list}
 use Rattle.codes.proofs.code.Code.matrix.Goals as goal
 
-pub overflow-mul-entries : goal.overflow-mul-entries
-overflow-mul-entries g c =
-    let h = g.met.Self.Code.limits c.args.data-units c.args.parity-units (c.if-not-permits.ensures.0 refl) in
+pub overflow_mul-entries : goal.overflow_mul-entries
+overflow_mul-entries g c =
+    let h = g.met.Self.Code.limits c.args.data_units c.args.parity_units (c.if-not-permits.ensures.0 refl) in
     let n = h.narrow in
-    let b : (c.args.data-units + c.args.parity-units) * c.args.data-units ≤ 16 * 16 = mul-le _ _ 16 16 (omega arith) (omega arith) in
+    let b : (c.args.data_units + c.args.parity_units) * c.args.data_units ≤ 16 * 16 = mul-le _ _ 16 16 (omega arith) (omega arith) in
     search rules
 
 -- one entry more
@@ -28,8 +28,8 @@ loop-i-preserved g c = more g.Self.F.Field.ops.zero _ c.args.out.now c.loop-i.ou
 pub returns : goal.returns
 returns g c =
     let O = g.Self.F.Field.ops.zero in
-    let d = c.args.data-units in
-    let p = c.args.parity-units in
+    let d = c.args.data_units in
+    let p = c.args.parity_units in
     let ok = c.if-not-permits.ensures.0 refl in
     let h = g.met.Self.Code.limits d p ok in
     let some = h.some_data in

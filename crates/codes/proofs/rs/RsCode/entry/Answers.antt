@@ -26,10 +26,10 @@ zero_inverse = same_value _ _ none_inverse
 pub returns-in-Some : goal.returns-in-Some
 returns-in-Some c =
     c.in-Some.ensures.1 ∙ ap inverse256 (masked _ (bit_xor c.args.row c.args.col) refl)
-    ∙ below c.args.data-units c.args.row c.args.col c.if-row-data-units.false
+    ∙ below c.args.data_units c.args.row c.args.col c.if-row-data_units.false
 
 pub returns-in-None : goal.returns-in-None
 returns-in-None c =
     c.zero-in-None.ensures ∙ sym zero_inverse
     ∙ ap inverse256 (sym c.in-None.ensures ∙ masked _ (bit_xor c.args.row c.args.col) refl)
-    ∙ below c.args.data-units c.args.row c.args.col c.if-row-data-units.false
+    ∙ below c.args.data_units c.args.row c.args.col c.if-row-data_units.false

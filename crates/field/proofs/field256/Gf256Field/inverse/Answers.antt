@@ -26,8 +26,8 @@ loop-i-init c = (
 
 pub loop-i-preserved : goal.loop-i-preserved
 loop-i-preserved c =
-    let n = 7 - (c.loop-i.-i + 1) in
-    let e : suc n ≡ 7 - c.loop-i.-i = omega arith in
+    let n = 7 - (c.loop-i._i + 1) in
+    let e : suc n ≡ 7 - c.loop-i._i = omega arith in
     let f = c.loop-i.found in
     let p = c.loop-i.power in (
       ap₂ (λ (u v : ℕ). product u (powers n v)) c.multiply-found.ensures.value c.multiply-power-in-loop-i.ensures.value
@@ -39,7 +39,7 @@ loop-i-preserved c =
 
 pub returns : goal.returns
 returns c =
-    let e : 7 - c.loop-i.-i ≡ 0 = omega arith in
+    let e : 7 - c.loop-i._i ≡ 0 = omega arith in
     let f = c.loop-i.found in (
       λ z. c.if-self-eq0.false (ap (λ (x : Gf256). x.value) z),
       same_value _ _
