@@ -9,7 +9,7 @@ returns-in-Ok c =
     let e = c.args.schema in
     let r = c.in-Ok.ensures in
     row_made e c.args.block_len (held_in c.args.shards.now) c.args.row c.cells_there-there.result c.lay_row.new.buffer c.recover.new.row c.cells_there-there.ensures.each_flag c.in-Ok.field-0
-    c.lay_row.ensures (λ q i. (c.type-inv.buffer (q * e.cell_size + i)).fits) r.from_the_lowest_there r.the_cells_dealt
+    c.lay_row.ensures (λ q i. (c.type_inv.buffer (q * e.cell_size + i)).fits) r.from_the_lowest_there r.the_cells_dealt
 
 pub returns-in-TooFew : goal.returns-in-TooFew
 returns-in-TooFew c = (

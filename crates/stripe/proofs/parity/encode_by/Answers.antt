@@ -21,7 +21,7 @@ cell_number k h = eqb→eq _ _ (below_at 16 (λ k. eqb (get_or cells k 0) k) cel
 pub unreachable-requires-in_default-act_on_cells : goal.unreachable-requires-in_default-act_on_cells
 unfolding cells
 unreachable-requires-in_default-act_on_cells g c =
-    acts g.F.Field.ops c.matrix.new.out _ c.loop-r.r cells c.args.s c.loop-r.r c.loop-r.row c.act_on_cells.new.cells c.in_default-act_on_cells.field-0 c.in_default-act_on_cells.ensures (record {
+    acts g.C.F.Field.ops c.matrix.new.out _ c.loop-r.r cells c.args.s c.loop-r.r c.loop-r.row c.act_on_cells.new.cells c.in_default-act_on_cells.field-0 c.in_default-act_on_cells.ensures (record {
       rows = (omega arith, omega arith);
       cols = (omega arith, omega arith);
       matrix = omega arith;
@@ -35,8 +35,8 @@ unreachable-requires-in_default-act_on_cells g c =
 pub loop-r-preserved : goal.loop-r-preserved
 unfolding cells
 loop-r-preserved g c =
-    let K = g.F.Field.ops in
-    let L = g.met.F.Field.field in
+    let K = g.C.F.Field.ops in
+    let L = g.met.C.F.Field.field in
     let d = c.args.d in
     let row : ℕ → g.row.C-F.Denot = grid K.zero d c.matrix.new.out c.loop-r.r in
     parity_more d c.loop-r.r c.args.s (λ r v. mixed K d (grid K.zero d c.matrix.new.out r) v) _ _ _ c.loop-r.auto.r (λ u v h. mixed_same L d row u v h) c.loop-r.invariant
@@ -45,7 +45,7 @@ loop-r-preserved g c =
 
 pub returns : goal.returns
 returns g c =
-    let K = g.F.Field.ops in
+    let K = g.C.F.Field.ops in
     let d = c.args.d in
     parity_same d c.loop-r.r (d + c.args.p) c.args.s (λ r v. mixed K d (grid K.zero d c.matrix.new.out r) v) _ _ _ (omega arith)
     (λ r v l. mixed_rows K d (grid K.zero d c.matrix.new.out r) (g.C.Code.generator d r) v (λ j o. c.in-Ok.ensures.2 r j l o)) c.loop-r.invariant

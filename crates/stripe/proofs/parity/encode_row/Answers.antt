@@ -25,7 +25,7 @@ returns-in-Rs c =
     let x = byte_at s.cell_size c.encode_by.new.row in
     let t : ParityIs s.data_units (units s) s.cell_size (coded s.codec s.data_units) w x =
     subst (λ (k : Codec). ParityIs s.data_units (units s) s.cell_size (coded k s.data_units) w x) (sym c.in-Rs.is) c.encode_by.ensures in
-    let f = parity_follows s.codec s.data_units (units s) s.cell_size w x c.requires.0 (λ r i. (c.type-inv.row (r * s.cell_size + i)).fits) t in
+    let f = parity_follows s.codec s.data_units (units s) s.cell_size w x c.requires.0 (λ r i. (c.type_inv.row (r * s.cell_size + i)).fits) t in
     record {
       parity = t;
       follows = f;
@@ -39,7 +39,7 @@ returns-in-Xor c =
     let x = byte_at s.cell_size c.encode_by-in-Xor.new.row in
     let t : ParityIs s.data_units (units s) s.cell_size (coded s.codec s.data_units) w x =
     subst (λ (k : Codec). ParityIs s.data_units (units s) s.cell_size (coded k s.data_units) w x) (sym c.in-Xor.is) c.encode_by-in-Xor.ensures in
-    let f = parity_follows s.codec s.data_units (units s) s.cell_size w x c.requires.0 (λ r i. (c.type-inv.row (r * s.cell_size + i)).fits) t in
+    let f = parity_follows s.codec s.data_units (units s) s.cell_size w x c.requires.0 (λ r i. (c.type_inv.row (r * s.cell_size + i)).fits) t in
     record {
       parity = t;
       follows = f;
