@@ -14,30 +14,30 @@ use Rattle.rebuild.proofs.block.add_rows.Goals as goal
 pub rebuild_row-requires : goal.rebuild_row-requires
 rebuild_row-requires c = let h = c.loop-row.invariant.0 in let r = c.requires in omega arith
 
-pub shape-of-buffer-in_err-rebuild_row : goal.shape-of-buffer-in_err-rebuild_row
-shape-of-buffer-in_err-rebuild_row c = c.rebuild_row.auto.buffer ∙ c.loop-row.invariant.0
+pub shape_of-buffer-in_err-rebuild_row : goal.shape_of-buffer-in_err-rebuild_row
+shape_of-buffer-in_err-rebuild_row c = c.rebuild_row.auto.buffer ∙ c.loop-row.invariant.0
 
 pub returns-in_err-rebuild_row : goal.returns-in_err-rebuild_row
 returns-in_err-rebuild_row c =
-    let p = err_from_is_err_and c.from-residual.result c.from-residual.ensures.1 in
+    let p = err_from_is_err_and c.from_residual.result c.from_residual.ensures.1 in
     rw (p.1, p.2)
     (row_refused c.args.schema c.args.block_len (held_in c.args.shards.now) (vec_items c.loop-row.block) c.loop-row.row (byte_at c.args.schema.cell_size c.rebuild_row.new.buffer) c.in_err-rebuild_row.field-0.0
     c.requires.0 (let v = c.row_count-row-end.ensures.value in let t = c.loop-row-test.true in omega arith) c.loop-row.invariant.1 c.in_err-rebuild_row.ensures)
 
-pub slice-bounds-extend_from_slice-end : goal.slice-bounds-extend_from_slice-end
-slice-bounds-extend_from_slice-end c =
+pub slice_bounds-extend_from_slice-end : goal.slice_bounds-extend_from_slice-end
+slice_bounds-extend_from_slice-end c =
     let s = c.args.schema in
     let most = mul-le s.data_units s.cell_size (units s) s.cell_size (omega arith) (omega arith) in
     let h : c.row_range-len.result.len ≤ length c.rebuild_row.new.buffer =
     (let k = c.rebuild_row.auto.buffer in let i = c.loop-row.invariant.0 in let w = c.row_range-len.ensures.in_the_row in let r = c.requires in omega arith) in
     search rules
 
-pub shape-of-buffer-in_err-extend_from_slice : goal.shape-of-buffer-in_err-extend_from_slice
-shape-of-buffer-in_err-extend_from_slice c = c.rebuild_row.auto.buffer ∙ c.loop-row.invariant.0
+pub shape_of-buffer-in_err-extend_from_slice : goal.shape_of-buffer-in_err-extend_from_slice
+shape_of-buffer-in_err-extend_from_slice c = c.rebuild_row.auto.buffer ∙ c.loop-row.invariant.0
 
 pub returns-in_err-extend_from_slice : goal.returns-in_err-extend_from_slice
 returns-in_err-extend_from_slice c =
-    let p = err_from_is_err_and c.from-residual-in_err-extend_from_slice.result c.from-residual-in_err-extend_from_slice.ensures.1 in
+    let p = err_from_is_err_and c.from_residual-in_err-extend_from_slice.result c.from_residual-in_err-extend_from_slice.ensures.1 in
     rw (p.1, p.2) c.requires.0
 
 pub loop-row-preserved : goal.loop-row-preserved
@@ -54,8 +54,8 @@ loop-row-preserved c =
           (rows_more s c.args.block_len held (vec_items c.loop-row.block) buffer c.loop-row.row (len - 0) (let r = c.requires in omega arith) part c.loop-row.invariant.1 c.in_ok-rebuild_row.ensures),
     )
 
-pub shape-of-buffer : goal.shape-of-buffer
-shape-of-buffer c = c.loop-row.invariant.0
+pub shape_of-buffer : goal.shape_of-buffer
+shape_of-buffer c = c.loop-row.invariant.0
 
 pub loop-row-init : goal.loop-row-init
 loop-row-init c = (refl, rows_none c.args.schema c.args.block_len (held_in c.args.shards.now) (vec_items c.args.block.now) c.requires.1.1)

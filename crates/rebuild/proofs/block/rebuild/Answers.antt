@@ -14,17 +14,17 @@ add_rows-requires c =
 
 pub returns-in_err-buffer : goal.returns-in_err-buffer
 returns-in_err-buffer c =
-    let p = err_from_is_err_and c.from-residual.result c.from-residual.ensures.1 in
+    let p = err_from_is_err_and c.from_residual.result c.from_residual.ensures.1 in
     record { from_the_shards_held = rw (p.1, p.2) (omega arith); the_block_dealt = rw p.1 tt }
 
 pub returns-in_err-block : goal.returns-in_err-block
 returns-in_err-block c =
-    let p = err_from_is_err_and c.from-residual-in_err-block.result c.from-residual-in_err-block.ensures.1 in
+    let p = err_from_is_err_and c.from_residual-in_err-block.result c.from_residual-in_err-block.ensures.1 in
     record { from_the_shards_held = rw (p.1, p.2) (omega arith); the_block_dealt = rw p.1 tt }
 
 pub returns-in_err-add_rows : goal.returns-in_err-add_rows
 returns-in_err-add_rows c =
-    let p = err_from_is_err_and c.from-residual-in_err-add_rows.result c.from-residual-in_err-add_rows.ensures.1 in
+    let p = err_from_is_err_and c.from_residual-in_err-add_rows.result c.from_residual-in_err-add_rows.ensures.1 in
     record { from_the_shards_held = rw (p.1, p.2) c.in_err-add_rows.ensures; the_block_dealt = rw p.1 tt }
 
 pub returns : goal.returns

@@ -28,8 +28,8 @@ overflow_add-result c =
     let h = own_within e.data_units e.parity_units e.cell_size c.args.block_len (held_in c.args.shards.now) c.args.row c.args.index c.in-Some.bytes.now c.own_len-own.result e.some_bytes (sym c.in-Some.ensures) c.own_len-own.ensures.of_its_shard e.some_data c.if-own-eq0.false in
     omega arith
 
-pub slice-bounds-result-end-2 : goal.slice-bounds-result-end-2
-slice-bounds-result-end-2 c =
+pub slice_bounds-result-end-2 : goal.slice_bounds-result-end-2
+slice_bounds-result-end-2 c =
     let e = c.args.schema in
     let h = own_within e.data_units e.parity_units e.cell_size c.args.block_len (held_in c.args.shards.now) c.args.row c.args.index c.in-Some.bytes.now c.own_len-own.result e.some_bytes (sym c.in-Some.ensures) c.own_len-own.ensures.of_its_shard e.some_data c.if-own-eq0.false in
     search rules
