@@ -1,2 +1,2 @@
-#![tactic(auto)]
 // Fields, matrices and codes as mathematics: definitions in specs/, their laws in proofs/, and no code.
+#![tactic(auto)]

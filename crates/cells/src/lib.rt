@@ -1,4 +1,3 @@
-#![tactic(auto)]
 // Which cell, row and shard each byte of a striped block is in, how long the shards are, and what a row has of a range.
 //
 //   d = 3, p = 2, s = 4, a block of 30 bytes:
@@ -8,6 +7,8 @@
 //   row 1    12..15    16..19    20..23    parity    parity
 //   row 2    24..27    28..29              parity    parity
 //   bytes      12        10         8        12        12
+#![tactic(auto)]
+
 mod places;
 mod rows;
 mod shards;

@@ -1,5 +1,6 @@
-#![tactic(auto)]
 // Checksums of bytes, CRC32 and CRC32C, of a whole slice or of one slice after another.
+#![tactic(auto)]
+
 mod kind;
 mod register;
 mod running;

@@ -1,5 +1,6 @@
-#![tactic(auto)]
 // Erasure codes: each names its field and its generator matrix, of which any data_units rows have an inverse.
+#![tactic(auto)]
+
 mod code;
 mod fault;
 mod rs;

@@ -1,5 +1,6 @@
-#![tactic(auto)]
 // A field as an interface by its laws, and the two fields of the codes: 256 elements for `rs`, two for `xor`.
+#![tactic(auto)]
+
 ghost use Rattle.std.specs.Prelude.{◌≡◌, ◌<◌, Decides};
 ghost use Rattle.algebra.specs.Fields.{Ops, FieldLaws};
 ghost use Rattle.field.specs.Inverted.{InverseOf};

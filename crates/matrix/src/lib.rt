@@ -1,5 +1,6 @@
-#![tactic(auto)]
 // Matrices over any field, in slices that a caller lends: their product, their inverse, and what they make of cells of bytes.
+#![tactic(auto)]
+
 mod action;
 mod elimination;
 mod fault;

@@ -1,5 +1,6 @@
-#![tactic(auto)]
 // Erasure coding schemes: the limits that each one keeps, Hadoop's five policies, and how a policy that is sent becomes a scheme.
+#![tactic(auto)]
+
 mod codec;
 mod fault;
 mod resolve;

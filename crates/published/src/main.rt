@@ -1,5 +1,6 @@
-#![tactic(auto)]
 // The published values by the calls of the library, held to a stored list; that the definitions give them is proved.
+#![tactic(auto)]
+
 ghost use Rattle.std.specs.Prelude.{◌≡◌};
 ghost use Rattle.published.specs.Published.{PublishedValues, count_of};
 

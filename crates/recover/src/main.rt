@@ -1,5 +1,6 @@
-#![tactic(auto)]
 // Puts a block together again from the files of its shards, and prints an account of it.
+#![tactic(auto)]
+
 mod account;
 mod refusal;
 mod request;
@@ -12,6 +13,7 @@ use rebuild::rebuild;
 use refusal::Refusal;
 use request::{Request, read_request};
 use shards::read_shards;
+use std::process::ExitCode;
 use std::{env, fs};
 
 const HELP: &str = "recover: puts a block together again from the files of its shards
@@ -65,10 +67,11 @@ fn words(rt: &HostRuntime) -> Result<Vec<String>, Refusal> {
     Ok(words)
 }
 
-fn main(rt: HostRuntime) -> Result<(), Refusal> {
-    let answer = start(&rt);
-    if let Err(refusal) = answer {
-        eprintln!(rt; "recover: {refusal}")?;
-    }
-    answer
+fn main(rt: HostRuntime) -> ExitCode {
+    let Err(refusal) = start(&rt) else {
+        return ExitCode::SUCCESS;
+    };
+    // the status tells it all the same where this can't be written
+    let _ = eprintln!(rt; "recover: {refusal}");
+    ExitCode::FAILURE
 }

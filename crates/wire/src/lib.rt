@@ -1,4 +1,3 @@
-#![tactic(auto)]
 // Fields of a protobuf message, read one at a time from a place in it, and varints as they are written.
 //
 //   08 96 01                       field 1, varint 150
@@ -7,6 +6,8 @@
 //   |  |  place of the part
 //   |  length, a varint
 //   key, a varint: field number * 8 + wire type
+#![tactic(auto)]
+
 mod faults;
 mod fields;
 mod varints;
