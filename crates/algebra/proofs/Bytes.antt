@@ -10,8 +10,8 @@ use lib.Bits.{bit_xor, xor_assoc, xor_comm, xor_self, xor_zero_l, xor_zero_r, xo
 use lib.Dec.{lit<, ltb}
 use Rattle.algebra.specs.Fields.{Ops, FieldLaws}
 use Rattle.algebra.specs.Sums.{sum, xors, count}
-use Rattle.algebra.specs.Matrices.{identity, Undoes, Inverse, mixed}
-use Rattle.algebra.specs.Codes.{Choice, Invertible, Follows, Bytes, Determined}
+use Rattle.algebra.specs.Matrices.{identity, Undoes, mixed}
+use Rattle.algebra.specs.Codes.{Choice, Invertible, Bytes, Determined}
 use Rattle.algebra.proofs.Numbers.{less_or_not}
 use Rattle.algebra.proofs.Algebra.{identity_on, identity_off}
 

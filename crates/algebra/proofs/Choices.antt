@@ -2,14 +2,14 @@
 use mathlib.Core.Path.{◌≡◌, refl, sym, ap, ap₂, ◌∙◌, subst}
 use mathlib.Core.Bool.{Bool, true, false, cond, ◌||◌}
 use mathlib.Core.Logic.{⊎_elim}
-use Prim.Native.Nat.{ℕ, zero, suc, ◌+◌, ◌≤◌, ◌<◌}
+use Prim.Native.Nat.{ℕ, zero, suc, ◌+◌, ◌<◌}
 use native.Mathlib.Nat.{not-suc-le-zero, le_of_suc-le-suc, eq-or-lt_of_le}
 use native.Mathlib.Omega.{arith}
 use borrow.Author.Tests.{clash, eq-eqb, ne_eqb, eqb-true}
 use lib.Dec.{eqb}
 use Rattle.algebra.specs.Fields.{Ops, FieldLaws}
 use Rattle.algebra.specs.Sums.{sum, count}
-use Rattle.algebra.specs.Matrices.{Inverse, Singular}
+use Rattle.algebra.specs.Matrices.{Singular}
 use Rattle.algebra.specs.Codes.{Choice, Invertible}
 use Rattle.algebra.proofs.Inverses.{inverse_or_singular}
 use Rattle.algebra.proofs.Lists.{Independent}

@@ -11,7 +11,7 @@ use Rattle.algebra.specs.Fields.{Ops, FieldLaws}
 use Rattle.algebra.specs.Sums.{sum}
 use Rattle.algebra.specs.Matrices.{identity, dot, Undoes, Inverse, TheInverse, NoInverse, Singular}
 use Rattle.algebra.specs.Elimination.{widened, Kernel, SameKernel, Reduced, swapped, Step, Solved, Stuck}
-use Rattle.algebra.proofs.Numbers.{same_or_not, less_or_not, below_next}
+use Rattle.algebra.proofs.Numbers.{less_or_not, below_next}
 use Rattle.algebra.proofs.Algebra.{zero_plus, negated, cancel, times_zero, zero_times, identity_on, identity_off, identity_turned}
 use Rattle.algebra.proofs.Algebra.{sum_same, sum_zero, sum_plus, sum_split, pick_left, pick_right, dot_assoc}
 use Rattle.algebra.proofs.Steps.{step_to, step_from, step_reduced}

@@ -1,5 +1,5 @@
 -- Codes by their generator matrix. Assumes nothing.
-use Rattle.std.specs.Prelude.{◌≡◌, Bool, true, cond, ℕ, ◌+◌, ◌<◌, ◌≤◌, ltb}
+use Rattle.std.specs.Prelude.{◌≡◌, Bool, true, cond, ℕ, ◌<◌, ◌≤◌, ltb}
 use Rattle.algebra.specs.Fields.{Ops}
 use Rattle.algebra.specs.Sums.{count}
 use Rattle.algebra.specs.Matrices.{identity, Inverse, mixed}

@@ -1,11 +1,10 @@
 -- Any d rows of the matrices of rs and xor have an inverse. Assumes nothing.
-use Rattle.std.specs.Prelude.{◌≡◌, ℕ, ◌+◌, ◌%◌, ◌<◌, ◌≤◌, ◌≢◌, bit_xor, refl}
+use Rattle.std.specs.Prelude.{◌≡◌, ℕ, ◌+◌, ◌%◌, ◌<◌, ◌≤◌, ◌≢◌, bit_xor}
 use Rattle.std.proofs.Common.{sym, ap, ◌∙◌, subst, arith}
 use Rattle.std.specs.Int.Bits.{xor_assoc, xor_self, xor_zero_l, xor_zero_r}
 use Rattle.std.proofs.lemmas.Nat.{xor_mod, xor_lt}
 use Rattle.algebra.specs.Fields.{Ops, FieldLaws}
-use Rattle.algebra.specs.Matrices.{product, Inverse}
-use Rattle.algebra.specs.Codes.{Choice, Invertible}
+use Rattle.algebra.specs.Codes.{Invertible}
 use Rattle.algebra.proofs.Algebra.{sum_same}
 use Rattle.algebra.proofs.Cauchy.{cauchy_independent, ones_independent}
 use Rattle.algebra.proofs.Parts.{independent}

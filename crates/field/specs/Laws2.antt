@@ -1,6 +1,6 @@
 -- The laws of the field of two elements. Assumes nothing.
 use Rattle.std.specs.Prelude.{◌≡◌, ℕ, ◌<◌, Bool, true, false, cond, ◌&&◌, ◌⊎◌, ◌≢◌, bit_xor, refl}
-use Rattle.std.proofs.Common.{sym, ap, ◌∙◌, inl, inr, lit<}
+use Rattle.std.proofs.Common.{sym, ap, inl, inr, lit<}
 use borrow.Author.Tests.{clash}
 use Rattle.std.specs.Int.Bits.{xor_self, xor_zero_r}
 use Rattle.field.specs.declared.gf2.Gf2.{Gf2}

@@ -1,10 +1,9 @@
 -- The laws of the field of 256 elements. Assumes nothing.
 use Rattle.std.specs.Prelude.{◌≡◌, ℕ, Bool, true, false, ◌⊎◌, ◌==◌, ◌≢◌, bit_xor, refl}
-use Rattle.std.proofs.Common.{sym, ap, ap₂, ◌∙◌, inl, inr, arith, eqb-true, lit<}
+use Rattle.std.proofs.Common.{ap, ◌∙◌, inl, inr, arith, eqb-true, lit<}
 use Rattle.std.proofs.lemmas.Bool.{eqb-false}
 use Rattle.std.specs.Int.Bits.{xor_assoc, xor_zero_l, xor_zero_r, xor_self}
-use Rattle.std.proofs.lemmas.Nat.{xor_comm, xor_lt}
-use Rattle.gfmath.specs.Polynomials.{product}
+use Rattle.std.proofs.lemmas.Nat.{xor_comm}
 use Rattle.gfmath.proofs.Linear.{product_first, product_second}
 use Rattle.gfmath.proofs.Laws.{product_lt, product_comm, product_assoc, product_one, product_inverse}
 use Rattle.field.specs.declared.gf256.Gf256.{Gf256}

@@ -1,5 +1,5 @@
 -- The field of 256 elements and the field of two. Assumes nothing.
-use Rattle.std.specs.Prelude.{ℕ, Bool, true, false, cond, not, ◌&&◌, bit_xor}
+use Rattle.std.specs.Prelude.{Bool, true, false, cond, not, ◌&&◌, bit_xor}
 use Rattle.std.proofs.lemmas.Nat.{xor_lt}
 use Rattle.std.proofs.Common.{lit<}
 use Rattle.algebra.specs.Fields.{Ops}

@@ -1,11 +1,10 @@
 -- The laws of the field of 256 elements: each is linear in its factors, so it is computed at powers of two. Assumes nothing.
-use Rattle.std.proofs.Common.{◌≡◌, ℕ, zero, suc, ◌+◌, ◌*◌, ◌/◌, ◌%◌, ◌^◌, ◌<◌, ◌≤◌, Bool, true, false, cond, ◌&&◌, ◌||◌, T, eqb, ltb, sym, refl, ap, ◌∙◌, subst, ap₂, arith, lit<, eqb→eq, ltb→lt}
-use native.Mathlib.Nat.{div-add-mod}
-use lib.Bits.{bit_xor, xor_lt, xor_comm, xor_assoc, xor_self, xor_zero_l, xor_zero_r, xor_shifted}
+use Rattle.std.proofs.Common.{◌≡◌, ℕ, zero, suc, ◌+◌, ◌*◌, ◌/◌, ◌%◌, ◌^◌, ◌<◌, ◌≤◌, Bool, true, false, cond, ◌||◌, T, eqb, ltb, sym, refl, ap, ◌∙◌, subst, ap₂, arith, lit<, eqb→eq, ltb→lt}
+use lib.Bits.{bit_xor, xor_lt, xor_comm, xor_assoc, xor_self, xor_zero_l, xor_shifted}
 use Rattle.std.proofs.lemmas.Nat.{pow_below}
 use Rattle.gfmath.specs.Polynomials.{bit, carryless, cleared, remainder, product, powers, inverse_of, LeftBy}
 use Rattle.gfmath.proofs.Tests.{all_below, below_at, pair_at}
-use Rattle.gfmath.proofs.Linear.{xor_four, carryless_second, remainder_xor, product_first, product_second, first_zero, second_zero, every}
+use Rattle.gfmath.proofs.Linear.{carryless_second, product_first, product_second, first_zero, second_zero, every}
 
 -- ---- bytes
 lt_test : T (all_below 8 (λ i. all_below 8 (λ j. ltb (product (2 ^ i) (2 ^ j)) 256)))

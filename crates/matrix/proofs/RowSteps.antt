@@ -1,5 +1,5 @@
 -- What one turn more of an exchange of rows and of a clearing leaves. Assumes nothing.
-use Rattle.std.proofs.Common.{◌≡◌, ℕ, ◌+◌, ◌<◌, ◌≤◌, sym, ap, ◌∙◌, ap₂, arith, below_more}
+use Rattle.std.proofs.Common.{◌≡◌, ℕ, ◌+◌, ◌<◌, sym, ◌∙◌, ap₂, arith, below_more}
 use Rattle.algebra.specs.Fields.{Ops}
 use Rattle.matrix.specs.Grids.{Put, RowIs}
 use Rattle.matrix.specs.Rows.{ExchangedTo, ClearTo}

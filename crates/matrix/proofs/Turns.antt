@@ -1,5 +1,5 @@
 -- One step of elimination from what its calls leave, and one turn more of it. Assumes nothing.
-use Rattle.std.proofs.Common.{◌≡◌, ℕ, suc, ◌+◌, ◌<◌, ◌≤◌, sym, refl, ap, ◌∙◌, subst, ap₂, ⊎_elim, add-one, arith}
+use Rattle.std.proofs.Common.{◌≡◌, ℕ, ◌+◌, ◌<◌, ◌≤◌, sym, ap, ◌∙◌, subst, ap₂, ⊎_elim, add-one}
 use Rattle.algebra.specs.Fields.{Ops, FieldLaws}
 use Rattle.algebra.specs.Elimination.{SameKernel, Reduced, swapped, Step}
 use Rattle.algebra.proofs.Numbers.{same_or_not}

@@ -1,9 +1,9 @@
 -- A row that was dealt from a block is the row that is made again. Assumes nothing.
-use Rattle.std.proofs.Common.{◌≡◌, ℕ, zero, suc, ◌+◌, ◌-◌, ◌*◌, ◌/◌, ◌%◌, ◌<◌, ◌≤◌, min, Bool, true, false, cond, ◌&&◌, ◌||◌, eqb, ltb, List, [], length, get_or, is_some, Some, None, Option, unwrap_or, sym, refl, ap, ◌∙◌, ap₂, ⊎_elim, arith}
+use Rattle.std.proofs.Common.{◌≡◌, ℕ, zero, suc, ◌+◌, ◌*◌, ◌/◌, ◌%◌, ◌<◌, ◌≤◌, Bool, true, cond, ◌&&◌, ◌||◌, eqb, ltb, List, [], length, get_or, is_some, Some, None, Option, unwrap_or, sym, refl, ap, ◌∙◌, ap₂, ⊎_elim, arith}
 use lib.Bits.{bit_xor}
-use Rattle.std.proofs.lemmas.Nat.{div-mul-add, mod-mul-add, div-add-mod', mod_below, div_below}
-use Rattle.std.proofs.lemmas.List.{get_or_past, ext_get_or}
-use Rattle.std.proofs.lemmas.Bool.{cases_lt, cases_Bool, lt-ltb, le-ltb, eqb-true, and_parts, cond-true, cond-false}
+use Rattle.std.proofs.lemmas.Nat.{div-mul-add, mod-mul-add}
+use Rattle.std.proofs.lemmas.List.{get_or_past}
+use Rattle.std.proofs.lemmas.Bool.{cases_lt, lt-ltb, le-ltb, eqb-true, and_parts, cond-true, cond-false}
 use Rattle.algebra.specs.Fields.{Ops, FieldLaws}
 use Rattle.algebra.specs.Sums.{xors}
 use Rattle.algebra.specs.Matrices.{mixed}
@@ -16,9 +16,9 @@ use Rattle.policy.specs.declared.codec.Codec.{Codec}
 use Rattle.policy.specs.declared.codec.Codec.TheVariants.{Rs, RsLegacy, Xor}
 use Rattle.stripe.specs.Coded.{coded, FollowsCode}
 use Rattle.stripe.proofs.Codecs.{coded_data, coded_local}
-use Rattle.dealing.specs.Places.{rows_of, cell_len_of, shard_len, data_len_of, like_shard_of, own_len_of}
+use Rattle.dealing.specs.Places.{cell_len_of, shard_len, data_len_of, like_shard_of, own_len_of}
 use Rattle.dealing.specs.Dealt.{shard_bytes, cell_bytes}
-use Rattle.dealing.proofs.Numbers.{rows_least, cell_len_of_shard, shard_len_is, own_len_is, like_shard_data}
+use Rattle.dealing.proofs.Numbers.{cell_len_of_shard, shard_len_is, own_len_is, like_shard_data}
 use Rattle.dealing.proofs.Rows.{cell_at}
 use Rattle.dealing.proofs.Shards.{shard_at, length_shard}
 use Rattle.rebuild.specs.Held.{whole_at, cell_there, cell_byte}

@@ -1,5 +1,5 @@
 -- A row whose missing data cells were made again, as the shards that are held have it. Assumes nothing.
-use Rattle.std.proofs.Common.{◌≡◌, ℕ, ◌+◌, ◌<◌, ◌≤◌, Bool, List, Ok, Err, Option, sym, ap, ◌∙◌, subst, arith}
+use Rattle.std.proofs.Common.{◌≡◌, ℕ, ◌<◌, Bool, List, Ok, Err, Option, sym, ap, ◌∙◌, subst, arith}
 use mathlib.Core.Path.{fun_ext}
 use Rattle.algebra.specs.Sums.{count}
 use Rattle.policy.specs.declared.schema.EcSchema.{EcSchema}

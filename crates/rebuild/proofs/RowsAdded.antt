@@ -4,7 +4,7 @@ use Rattle.std.proofs.lemmas.Nat.{mul-le}
 use Rattle.std.proofs.lemmas.List.{length-append, length-take, get_or_append_left, get_or-append_right, get_or-take}
 use Rattle.policy.specs.declared.schema.EcSchema.{EcSchema}
 use Rattle.stripe.specs.Coded.{byte_at, units, RowRoom}
-use Rattle.dealing.specs.Places.{rows_of, row_bytes, part_len}
+use Rattle.dealing.specs.Places.{row_bytes, part_len}
 use Rattle.dealing.proofs.Numbers.{rows_least, cell_ends, row_after}
 use Rattle.rebuild.specs.declared.fault.RebuildFault.{RebuildFault}
 use Rattle.rebuild.specs.declared.fault.RebuildFault.TheVariants.{Block, TooFew, Legacy, Memory}

@@ -3,7 +3,7 @@ use Rattle.std.specs.Prelude.{◌≡◌, ℕ, ◌+◌, ◌*◌, ◌/◌, ◌%◌
 use Rattle.policy.specs.declared.codec.Codec.{Codec}
 use Rattle.policy.specs.declared.codec.Codec.TheVariants.{RsLegacy}
 use Rattle.policy.specs.declared.schema.EcSchema.{EcSchema}
-use Rattle.stripe.specs.Coded.{coded, units}
+use Rattle.stripe.specs.Coded.{coded}
 use Rattle.dealing.specs.Dealt.{shard_bytes, cell_bytes}
 use Rattle.rebuild.specs.declared.fault.RebuildFault.{RebuildFault}
 use Rattle.rebuild.specs.Held.{whole_at}

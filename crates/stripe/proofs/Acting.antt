@@ -1,5 +1,5 @@
 -- What refusals of the matrix calls would say, and cells that lie in a buffer. Assumes nothing.
-use Rattle.std.proofs.Common.{◌≡◌, ℕ, ◌+◌, ◌*◌, ◌/◌, ◌<◌, ◌≤◌, List, length, Err, sym, refl, ap, ◌∙◌, le-div_iff_mul-le, arith}
+use Rattle.std.proofs.Common.{◌≡◌, ℕ, ◌+◌, ◌*◌, ◌/◌, ◌<◌, ◌≤◌, List, length, Err, ap, ◌∙◌, le-div_iff_mul-le, arith}
 use Rattle.std.proofs.lemmas.Nat.{mul-le}
 use Rattle.algebra.specs.Fields.{Ops, FieldLaws}
 use Rattle.algebra.specs.Matrices.{Inverse}

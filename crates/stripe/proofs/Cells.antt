@@ -1,6 +1,5 @@
 -- The cells of a row that are there, counted and listed. Assumes nothing.
 use Rattle.std.proofs.Common.{◌≡◌, ℕ, zero, suc, ◌+◌, ◌-◌, ◌<◌, ◌≤◌, Bool, true, false, cond, ◌⊎◌, List, [], ◌∷◌, ◌++◌, length, get_or, set, sym, refl, ap, ◌∙◌, subst, ap₂, inl, inr, ⊎_elim, le_of_suc-le-suc, not-suc-le-zero, add-zero, eq-or-lt_of_le, add-one, arith, length-append, get_or-set_other, get_or-set_same, below_more}
-use borrow.Author.Tests.{clash}
 use Rattle.std.proofs.lemmas.List.{get_or_append_left, get_or-append_right}
 use Rattle.algebra.specs.Sums.{count}
 use Rattle.algebra.specs.Codes.{Choice}

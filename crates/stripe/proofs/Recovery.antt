@@ -1,5 +1,5 @@
 -- Missing data cells made again from the lowest d that are there, by the inverse of their rows. Assumes nothing.
-use Rattle.std.proofs.Common.{◌≡◌, ℕ, ◌+◌, ◌<◌, ◌≤◌, Bool, true, false, sym, refl, ap, ◌∙◌, arith}
+use Rattle.std.proofs.Common.{◌≡◌, ℕ, ◌<◌, ◌≤◌, Bool, true, false, sym, refl, ap, ◌∙◌, arith}
 use Rattle.algebra.specs.Fields.{Ops, FieldLaws}
 use Rattle.algebra.specs.Sums.{count}
 use Rattle.algebra.specs.Matrices.{identity, Inverse, mixed}

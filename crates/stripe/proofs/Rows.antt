@@ -1,5 +1,5 @@
 -- What one more parity cell or one more cell made again leaves of a row. Assumes nothing.
-use Rattle.std.proofs.Common.{◌≡◌, ℕ, ◌+◌, ◌<◌, ◌≤◌, Bool, true, false, sym, refl, ap, ◌∙◌, arith, below_more}
+use Rattle.std.proofs.Common.{◌≡◌, ℕ, ◌+◌, ◌<◌, ◌≤◌, Bool, true, false, sym, ap, ◌∙◌, arith, below_more}
 use borrow.Author.Tests.{clash}
 use Rattle.algebra.specs.Fields.{Ops}
 use Rattle.algebra.specs.Matrices.{mixed}

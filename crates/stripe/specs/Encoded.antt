@@ -1,7 +1,5 @@
 -- What making the parity of a row answers, and what it leaves in the row buffer. Assumes nothing.
-use Rattle.std.specs.Prelude.{◌≡◌, ℕ, ◌+◌, ◌<◌, ◌≤◌, List, Ok, Err, Result, ◌≢◌}
-use Rattle.algebra.specs.Fields.{Ops}
-use Rattle.algebra.specs.Matrices.{mixed}
+use Rattle.std.specs.Prelude.{◌≡◌, ℕ, ◌<◌, ◌≤◌, List, Ok, Err, Result, ◌≢◌}
 use Rattle.policy.specs.declared.codec.Codec.TheVariants.{RsLegacy}
 use Rattle.policy.specs.declared.schema.EcSchema.{EcSchema}
 use Rattle.stripe.specs.declared.fault.StripeFault.{StripeFault}

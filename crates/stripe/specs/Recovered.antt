@@ -1,5 +1,5 @@
 -- What making missing data cells again answers, and what it leaves in the row buffer. Assumes nothing.
-use Rattle.std.specs.Prelude.{◌≡◌, ℕ, ◌+◌, ◌-◌, ◌<◌, ◌≤◌, Bool, true, false, List, Ok, Err, Result, slice_index}
+use Rattle.std.specs.Prelude.{◌≡◌, ℕ, ◌+◌, ◌<◌, ◌≤◌, Bool, true, false, List, Ok, Err, Result, slice_index}
 use Rattle.algebra.specs.Sums.{count}
 use Rattle.algebra.specs.Codes.{Bytes}
 use Rattle.policy.specs.declared.codec.Codec.TheVariants.{RsLegacy}

@@ -1,4 +1,4 @@
-use Rattle.std.proofs.Common.{◌≡◌, ℕ, ◌*◌, ◌<◌, cond, sym, ap, ◌∙◌, subst, arith, lit<, rules, le-ltb, lt-ltb}
+use Rattle.std.proofs.Common.{◌≡◌, ◌*◌, ◌<◌, cond, sym, ap, ◌∙◌, arith, lit<, rules, le-ltb, lt-ltb}
 use lib.Bits.{bit_xor}
 use Rattle.gfmath.specs.Polynomials.{product}
 use Rattle.gfmath.proofs.Laws.{product_lt, product_two}

@@ -1,9 +1,7 @@
-use Rattle.std.proofs.Common.{◌≡◌, ℕ, ◌+◌, ◌<◌, ◌≤◌, get_or, sym, refl, ap, ◌∙◌, ⊎_elim, arith}
-use Rattle.algebra.specs.Fields.{Ops, FieldLaws}
-use Rattle.algebra.specs.Matrices.{mixed}
+use Rattle.std.proofs.Common.{◌≡◌, ℕ, ◌<◌, get_or, sym, ap, ◌∙◌, ⊎_elim, arith}
 use Rattle.algebra.proofs.Numbers.{same_or_not}
 use Rattle.algebra.proofs.Bytes.{mixed_same}
-use Rattle.matrix.specs.Grids.{grid, RowTo}
+use Rattle.matrix.specs.Grids.{RowTo}
 use Rattle.matrix.proofs.Grids.{put_set, row_more}
 use Rattle.matrix.proofs.action.act_on_cells.Goals as goal
 

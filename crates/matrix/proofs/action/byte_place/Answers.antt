@@ -1,4 +1,4 @@
-use Rattle.std.proofs.Common.{ℕ, ◌+◌, ◌*◌, ◌/◌, ◌<◌, ◌≤◌, refl, div-mul-le_self, arith, rules}
+use Rattle.std.proofs.Common.{ℕ, ◌+◌, ◌*◌, ◌/◌, ◌<◌, refl, div-mul-le_self, arith, rules}
 use Rattle.std.proofs.lemmas.Nat.{mul-add-lt}
 use Rattle.matrix.proofs.action.byte_place.Goals as goal
 

@@ -1,4 +1,4 @@
-use Rattle.std.proofs.Common.{◌≡◌, ℕ, List, sym, refl, ap, ◌∙◌, subst, arith}
+use Rattle.std.proofs.Common.{List, sym, refl, ap, ◌∙◌, subst, arith}
 use Rattle.matrix.specs.Grids.{grid, Beyond}
 use Rattle.matrix.proofs.Turns.{Moved, moved_exchanged, moved_not, step_made}
 use Rattle.matrix.proofs.elimination.reduce.Goals as goal

@@ -1,4 +1,4 @@
-use Rattle.std.proofs.Common.{◌≡◌, sym, refl, ◌∙◌, arith}
+use Rattle.std.proofs.Common.{refl, ◌∙◌, arith}
 use Rattle.algebra.proofs.Inverses.{solved_the_inverse, stuck_no_inverse}
 use Rattle.matrix.proofs.Grids.{beyond_list, zeroed_same}
 use Rattle.matrix.proofs.inversion.invert_square.Goals as goal

@@ -1,4 +1,4 @@
-use Rattle.std.proofs.Common.{◌≡◌, List, set, ◌∙◌, ap₂, arith}
+use Rattle.std.proofs.Common.{List, set, ◌∙◌, ap₂, arith}
 use Rattle.matrix.proofs.Grids.{zero_more}
 use Rattle.matrix.proofs.places.clear.Goals as goal
 

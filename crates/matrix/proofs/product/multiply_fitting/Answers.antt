@@ -1,4 +1,4 @@
-use Rattle.std.proofs.Common.{◌≡◌, sym, ◌∙◌, arith}
+use Rattle.std.proofs.Common.{arith}
 use Rattle.matrix.proofs.Grids.{rows_more, beyond_list}
 use Rattle.matrix.proofs.product.multiply_fitting.Goals as goal
 

@@ -1,7 +1,6 @@
 -- The rows that are put together are the block that the shards were dealt from.
-use Rattle.std.proofs.Common.{◌≡◌, ◌≤◌, length, vec_items, sym, arith}
+use Rattle.std.proofs.Common.{vec_items, arith}
 use Rattle.std.proofs.lemmas.Result.{err_from_is_err_and}
-use Rattle.stripe.specs.Coded.{RowRoom}
 use Rattle.rebuild.specs.Held.{held_in}
 use Rattle.rebuild.proofs.DealtBlock.{answer_is_dealt}
 use Rattle.rebuild.proofs.block.rebuild.Goals as goal

@@ -1,9 +1,6 @@
 -- Each flag is set where its cell is there, and none past the last parity cell.
-use Rattle.std.proofs.Common.{◌≡◌, ℕ, ◌+◌, ◌<◌, ◌≤◌, Bool, ◌&&◌, ◌||◌, eqb, length, is_some, sym, ap, ◌∙◌, ⊎_elim, arith, below_more}
+use Rattle.std.proofs.Common.{◌<◌, length, ◌∙◌, arith, below_more}
 use Rattle.std.proofs.lemmas.List.{length-set, get_or-set_same, get_or-set_other}
-use Rattle.std.proofs.lemmas.Bool.{cases_lt, le-ltb}
-use Rattle.dealing.specs.Places.{own_len_of}
-use Rattle.rebuild.specs.Held.{held_in, whole_at}
 use Rattle.rebuild.proofs.held.cells_there.Goals as goal
 
 pub loop-i-preserved : goal.loop-i-preserved

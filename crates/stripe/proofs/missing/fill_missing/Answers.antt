@@ -1,4 +1,4 @@
-use Rattle.std.proofs.Common.{◌≡◌, ℕ, ◌+◌, ◌*◌, ◌<◌, ◌≤◌, List, get_or, sym, refl, ap, ◌∙◌, subst, arith, rules}
+use Rattle.std.proofs.Common.{ℕ, ◌+◌, List, get_or, sym, subst, arith}
 use Rattle.algebra.specs.Matrices.{mixed}
 use Rattle.algebra.proofs.Bytes.{mixed_same}
 use Rattle.matrix.specs.Grids.{grid}

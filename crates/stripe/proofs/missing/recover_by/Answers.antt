@@ -1,7 +1,5 @@
-use Rattle.std.proofs.Common.{◌≡◌, ℕ, ◌+◌, ◌*◌, ◌<◌, ◌≤◌, length, get_or, sym, refl, ap, ◌∙◌, subst, arith}
+use Rattle.std.proofs.Common.{ℕ, ◌+◌, ◌*◌, ◌<◌, ◌≤◌, get_or, refl, ◌∙◌, subst, arith}
 use Rattle.std.proofs.lemmas.Nat.{mul-le}
-use Rattle.algebra.specs.Matrices.{Inverse}
-use Rattle.codes.specs.Rows.{invertible_same}
 use Rattle.matrix.specs.Grids.{grid}
 use Rattle.stripe.specs.Coded.{byte_at}
 use Rattle.stripe.specs.There.{flag}

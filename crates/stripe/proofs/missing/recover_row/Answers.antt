@@ -1,4 +1,4 @@
-use Rattle.std.proofs.Common.{◌≡◌, ℕ, ◌+◌, ◌-◌, ◌*◌, ◌<◌, ◌≤◌, sym, refl, ◌∙◌, subst, arith}
+use Rattle.std.proofs.Common.{◌≡◌, ℕ, ◌+◌, ◌-◌, ◌*◌, ◌<◌, sym, refl, ◌∙◌, subst, arith}
 use Rattle.algebra.specs.Sums.{count}
 use Rattle.policy.specs.declared.codec.Codec.{Codec}
 use Rattle.stripe.specs.Coded.{byte_at, coded, units}

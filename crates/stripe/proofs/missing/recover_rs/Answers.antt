@@ -1,4 +1,3 @@
-use Rattle.std.proofs.Common.{ℕ, ◌+◌, ◌*◌, ◌≤◌, arith}
 use Rattle.stripe.proofs.Acting.{matrix_room, square_room, wide_room}
 use Rattle.stripe.proofs.missing.recover_rs.Goals as goal
 

@@ -1,4 +1,4 @@
-use Rattle.std.proofs.Common.{◌≡◌, ℕ, ◌+◌, ◌*◌, ◌/◌, ◌<◌, ◌≤◌, T, eqb, List, [], ◌∷◌, length, get_or, sym, refl, ap, ◌∙◌, subst, arith, eqb→eq, rules}
+use Rattle.std.proofs.Common.{◌≡◌, ℕ, ◌+◌, ◌/◌, ◌<◌, T, eqb, List, [], ◌∷◌, length, get_or, sym, ap, subst, arith, eqb→eq}
 use Rattle.algebra.specs.Matrices.{mixed}
 use Rattle.algebra.proofs.Bytes.{mixed_same}
 use Rattle.gfmath.proofs.Tests.{all_below, below_at}

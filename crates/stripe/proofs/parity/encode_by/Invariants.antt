@@ -1,4 +1,3 @@
-use Rattle.std.proofs.Common.{◌+◌}
 use Rattle.algebra.specs.Matrices.{mixed}
 use Rattle.matrix.specs.Grids.{grid}
 use Rattle.stripe.specs.Coded.{byte_at}

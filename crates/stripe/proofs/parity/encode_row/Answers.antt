@@ -1,4 +1,4 @@
-use Rattle.std.proofs.Common.{◌≡◌, ℕ, ◌+◌, ◌*◌, ◌<◌, ◌≤◌, sym, refl, ◌∙◌, subst, arith, rules}
+use Rattle.std.proofs.Common.{◌+◌, ◌*◌, sym, subst}
 use Rattle.policy.specs.declared.codec.Codec.{Codec}
 use Rattle.stripe.specs.Coded.{byte_at, coded, units}
 use Rattle.stripe.specs.Encoded.{ParityIs}

@@ -1,5 +1,5 @@
-use Rattle.std.proofs.Common.{◌≡◌, ℕ, ◌+◌, ◌*◌, ◌/◌, ◌%◌, ◌<◌, length, get_or, set, sym, ap, ◌∙◌, ap₂, mod-lt, arith, get_or-set_other, get_or-set_same, rules, below_more}
-use Rattle.std.proofs.lemmas.Nat.{div_below, mul-le, mul-add-lt, div-mul-add, mod-mul-add}
+use Rattle.std.proofs.Common.{ℕ, ◌+◌, ◌*◌, ◌/◌, get_or, ap, ◌∙◌, ap₂, mod-lt, arith, get_or-set_other, get_or-set_same, rules, below_more}
+use Rattle.std.proofs.lemmas.Nat.{div_below, mul-add-lt, div-mul-add, mod-mul-add}
 use Rattle.std.proofs.lemmas.List.{get_or_read}
 use Rattle.matrix.specs.Grids.{grid}
 use Rattle.stripe.proofs.select.select_rows.Goals as goal

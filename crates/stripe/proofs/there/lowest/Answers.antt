@@ -1,4 +1,4 @@
-use Rattle.std.proofs.Common.{◌≡◌, ℕ, ◌+◌, ◌<◌, List, get_or, sym, ap, ◌∙◌, ap₂, subst₂, arith}
+use Rattle.std.proofs.Common.{◌≡◌, ℕ, ◌+◌, ◌<◌, List, get_or, sym, ap, ◌∙◌, subst₂, arith}
 use Rattle.stripe.specs.There.{flag, lowest_there}
 use Rattle.stripe.proofs.Cells.{count_there, count_not, listed_there, listed_not}
 use Rattle.stripe.proofs.there.lowest.Goals as goal

@@ -1,4 +1,4 @@
-use Rattle.std.proofs.Common.{◌≡◌, ℕ, ◌<◌, ◌≤◌, length, get_or}
+use Rattle.std.proofs.Common.{◌≡◌, ℕ, ◌<◌, ◌≤◌, get_or}
 use Rattle.algebra.specs.Sums.{count}
 use Rattle.stripe.specs.There.{flag, there_below}
 use Rattle.stripe.proofs.there.lowest.Given as goal

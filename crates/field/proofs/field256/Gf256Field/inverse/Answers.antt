@@ -1,4 +1,4 @@
-use Rattle.std.proofs.Common.{◌≡◌, ℕ, suc, ◌+◌, ◌-◌, ◌<◌, sym, refl, ap, ◌∙◌, ap₂, arith, lit<}
+use Rattle.std.proofs.Common.{◌≡◌, ℕ, suc, ◌+◌, ◌-◌, sym, refl, ap, ◌∙◌, ap₂, arith, lit<}
 use Rattle.gfmath.specs.Polynomials.{product, powers, inverse_of}
 use Rattle.gfmath.proofs.Laws.{product_one, product_comm, product_assoc, product_lt, powers_lt}
 use Rattle.field.specs.declared.gf256.Gf256.{Gf256}
