@@ -1,5 +1,5 @@
 -- The published values, as one list over the definitions. Assumes nothing.
-use Rattle.std.specs.Prelude.{◌≡◌, ℕ, ◌+◌, List, [], ◌∷◌, map, codes}
+use Rattle.std.specs.Prelude.{◌≡◌, ℕ, ◌+◌, [], ◌∷◌, map, codes}
 use Rattle.crcmath.specs.Registers.{ieee, castagnoli, crc_of}
 use Rattle.dealing.specs.Places.{row_bytes, shard_len, part_len}
 use Rattle.policy.specs.declared.codec.Codec.TheVariants.{Rs}
