@@ -14,7 +14,7 @@ use Rattle.field.specs.Models.{gf2, gf256, zero256, plus256}
 use Rattle.field.specs.Elements.{same_value}
 use Rattle.field.specs.Laws256.{laws256}
 use Rattle.field.specs.Laws2.{laws2}
-use Rattle.codes.specs.Generators.{element, rs_part, rs_generator, xor_part, xor_generator}
+use Rattle.codes.specs.Generators.{Permitted, element, rs_part, rs_generator, xor_part, xor_generator}
 
 xor_back : (a b : ℕ) → bit_xor (bit_xor a b) b ≡ a
 xor_back a b = xor_assoc a b b ∙ ap (bit_xor a) (xor_self b) ∙ xor_zero_r a
@@ -36,6 +36,10 @@ pub rs_invertible : (d p : ℕ) → d + p ≤ 256 → Invertible gf256 d (d + p)
 rs_invertible d p h =
     invertible laws256 d (d + p) (rs_generator d)
     (independent laws256 d p rs_part (cauchy_independent laws256 (λ r c. element (bit_xor r c)) 256 differ chain d (d + p) (omega arith) h))
+
+-- the same under the limits of the code
+pub rs_permitted : (d p : ℕ) → Permitted d p → Invertible gf256 d (d + p) (rs_generator d)
+rs_permitted d p h = rs_invertible d p (omega arith)
 
 pub xor_invertible : (d p : ℕ) → p ≡ 1 → Invertible gf2 d (d + p) (xor_generator d)
 xor_invertible d p e =

@@ -2,8 +2,7 @@
 ghost use Rattle.codes.specs.Generators.{Permitted, rs_generator, rs_part};
 ghost use Rattle.algebra.proofs.Parts.{generator_upper};
 ghost use Rattle.field.specs.Models;
-ghost use Rattle.std.proofs.Common.{arith};
-ghost use Rattle.codes.specs.Rows.{rs_invertible};
+ghost use Rattle.codes.specs.Rows.{rs_permitted};
 
 use super::code::Code;
 use field::Field;
@@ -22,7 +21,7 @@ impl Code for Rs {
 
     ghost systematic = { λ d r c h. generator_upper Models.gf256 d rs_part r c h };
 
-    ghost rows = { λ d p h. rs_invertible d p (omega arith) };
+    ghost rows = { rs_permitted };
 
     fn permits(data_units: usize, parity_units: usize) -> bool {
         data_units >= 1 && parity_units >= 1 && data_units <= 16 && parity_units <= 16 - data_units

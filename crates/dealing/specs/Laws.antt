@@ -8,12 +8,12 @@ abbrev pub HasAt : List ℕ → ℕ → ℕ → Type 0
 HasAt bytes t v = (t < length bytes) × (slice_index bytes t ≡ v)
 
 -- byte b of the block is at this place of this cell and at this one of this shard, and nowhere else
-pub record Placed (d s : ℕ) (block : List ℕ) (b cell row shard inShard inCell : ℕ) : Type 0 where
+pub record Placed (d s : ℕ) (block : List ℕ) (b cell row shard in_shard in_cell : ℕ) : Type 0 where
   pub cell_is : cell ≡ row * d + shard
-  pub cell_has : HasAt (own_bytes s block cell) inCell (slice_index block b)
-  pub shard_has : HasAt (shard_bytes d s block shard) inShard (slice_index block b)
-  pub one_cell : (c t : ℕ) → t < s → c * s + t ≡ b → (c ≡ cell) × (t ≡ inCell)
-  pub one_shard : (i o : ℕ) → i < d → byte_of d s i o ≡ b → (i ≡ shard) × (o ≡ inShard)
+  pub cell_has : HasAt (own_bytes s block cell) in_cell (slice_index block b)
+  pub shard_has : HasAt (shard_bytes d s block shard) in_shard (slice_index block b)
+  pub one_cell : (c t : ℕ) → t < s → c * s + t ≡ b → (c ≡ cell) × (t ≡ in_cell)
+  pub one_shard : (i o : ℕ) → i < d → byte_of d s i o ≡ b → (i ≡ shard) × (o ≡ in_shard)
 
 -- place o of data shard i is one byte of the block, which has that place
 pub record FromShard (d s : ℕ) (block : List ℕ) (i o : ℕ) : Type 0 where

@@ -1,13 +1,13 @@
 -- The numbers that the program refuses by. Assumes nothing.
 use Rattle.std.specs.Prelude.{ℕ}
-use Rattle.policy.specs.Faults.{number_of as policyNumber}
-use Rattle.rebuild.specs.Faults.{number_of as rebuildNumber}
+use Rattle.policy.specs.Faults.{number_of as policy_number}
+use Rattle.rebuild.specs.Faults.{number_of as rebuild_number}
 use Rattle.recover.specs.declared.refusal.Refusal.{Refusal}
 use Rattle.recover.specs.declared.refusal.Refusal.TheVariants.{Usage, Policy, Rebuild, File}
 
 -- 40: the command line has another form; 30: a file; else the number of what the library refused
 abbrev pub number_of : Refusal → ℕ
 number_of Usage = 40
-number_of (Policy f) = policyNumber f
-number_of (Rebuild f) = rebuildNumber f
+number_of (Policy f) = policy_number f
+number_of (Rebuild f) = rebuild_number f
 number_of File = 30
