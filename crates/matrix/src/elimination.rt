@@ -9,7 +9,7 @@ use field::Field;
 
 // Row p comes to k, is divided by its entry in column k, and clears that column in the other rows.
 fn reduce<F: Field>(m: &mut [F], rows: usize, cols: usize, k: usize, p: usize)
-    requires { (Area rows cols (length m.old)) × ((k < rows) × ((p < rows) × ((k < cols) × ((grid F.Field.ops.zero cols m.old p k ≢ F.Field.ops.zero))))) }
+    requires { (Area rows cols (length m.old)) × ((k < rows) × ((p < rows) × ((k < cols) × (grid F.Field.ops.zero cols m.old p k ≢ F.Field.ops.zero)))) }
     ensures step { Step F.Field.ops rows cols k p (grid F.Field.ops.zero cols m.old) (grid F.Field.ops.zero cols m.new) }
     ensures beyond { Beyond rows cols (grid F.Field.ops.zero cols m.old) (grid F.Field.ops.zero cols m.new) }
 {

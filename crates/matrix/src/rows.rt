@@ -7,7 +7,7 @@ use super::places::{entry, put};
 use field::Field;
 
 pub(crate) fn swap_rows<F: Field>(m: &mut [F], rows: usize, cols: usize, a: usize, b: usize)
-    requires { (Area rows cols (length m.old)) × ((a < rows) × ((b < rows) × ((a ≢ b)))) }
+    requires { (Area rows cols (length m.old)) × ((a < rows) × ((b < rows) × (a ≢ b))) }
     ensures { Exchanged cols a b (grid F.Field.ops.zero cols m.old) (grid F.Field.ops.zero cols m.new) }
 {
     for c in 0..cols {
@@ -31,7 +31,7 @@ pub(crate) fn scale_row<F: Field>(m: &mut [F], rows: usize, cols: usize, row: us
 
 // Takes a row, times an element, from another.
 fn subtract_row<F: Field>(m: &mut [F], rows: usize, cols: usize, row: usize, from: usize, by: F)
-    requires { (Area rows cols (length m.old)) × ((row < rows) × ((from < rows) × ((from ≢ row)))) }
+    requires { (Area rows cols (length m.old)) × ((row < rows) × ((from < rows) × (from ≢ row))) }
     ensures { RowIs cols row (λ c. F.Field.ops.minus (grid F.Field.ops.zero cols m.old row c) (F.Field.ops.times by (grid F.Field.ops.zero cols m.old from c))) (grid F.Field.ops.zero cols m.old) (grid F.Field.ops.zero cols m.new) }
 {
     for c in 0..cols {

@@ -27,7 +27,7 @@ fn fill_missing<F: Field>(
     row: &mut [u8],
 )
     requires sizes { (1 ≤ d) × ((d ≤ 16) × ((1 ≤ s) × (d * d ≤ length inverse.now))) }
-    requires cells { (((k : ℕ) → k < d → (flag there.now (slice_index chosen.now k) ≡ true) × ((slice_index chosen.now k + 1) * s ≤ length row.old))) × (d * s ≤ length row.old) }
+    requires cells { ((k : ℕ) → k < d → (flag there.now (slice_index chosen.now k) ≡ true) × ((slice_index chosen.now k + 1) * s ≤ length row.old)) × (d * s ≤ length row.old) }
     ensures { Filled d s (flag there.now) (λ c v. mixed F.Field.ops d (grid F.Field.ops.zero d inverse.now c) (λ k. v (slice_index chosen.now k))) (byte_at s row.old) (byte_at s row.new) }
 {
     let sides = Sides { rows: d, cols: d };

@@ -39,7 +39,7 @@ fn encode_by<C: Code>(d: usize, p: usize, s: usize, row: &mut [u8], generator: &
 
 // Makes the parity cells of a row that the buffer has room for, by a code that is known.
 fn encode_row(schema: EcSchema, row: &mut [u8])
-    requires { ((schema.codec ≢ RsLegacy)) × (RowRoom schema row.old) }
+    requires { (schema.codec ≢ RsLegacy) × (RowRoom schema row.old) }
     ensures parity { ParityIs schema.data_units (units schema) schema.cell_size (coded schema.codec schema.data_units) (byte_at schema.cell_size row.old) (byte_at schema.cell_size row.new) }
     ensures follows { RowFollows schema row.new (Ok tt) }
     ensures only { OnlyParity schema row.new (Ok tt) }
