@@ -4,7 +4,7 @@ ghost use Rattle.algebra.specs.Matrices.{mixed};
 ghost use Rattle.matrix.specs.Acted.{Acted, EachBelow};
 ghost use Rattle.matrix.specs.Grids.{grid, Area};
 
-use super::fault::{MatrixFault, Sides};
+use super::fault::{Matrix, MatrixFault, Sides};
 use super::places::{area, entry, is_side};
 use field::Field;
 
@@ -55,20 +55,20 @@ fn mix_byte<F: Field>(
 
 // The target cell becomes what a row of the matrix makes of the source cells, of which there is one for each column.
 pub fn act_on_cells<F: Field>(
-    m: &[F],
-    sides: Sides,
+    m: Matrix<'_, F>,
     row: usize,
     sources: &[usize],
     cell_size: usize,
     target: usize,
     cells: &mut [u8],
 ) -> Result<(), MatrixFault>
-    ensures { Acted F.Field.ops m.now sides row sources.now cell_size target cells.old cells.new result }
+    ensures { Acted F.Field.ops m.entry.entries.now m.entry.sides row sources.now cell_size target cells.old cells.new result }
 {
+    let Matrix { entries, sides } = m;
     if !is_side(sides.rows) || !is_side(sides.cols) || row >= sides.rows || cell_size == 0 {
         return Err(MatrixFault::Sides);
     }
-    if m.len() < area(sides.rows, sides.cols) || sources.len() < sides.cols {
+    if entries.len() < area(sides.rows, sides.cols) || sources.len() < sides.cols {
         return Err(MatrixFault::Sides);
     }
     let count = cells.len() / cell_size;
@@ -76,7 +76,7 @@ pub fn act_on_cells<F: Field>(
         return Err(MatrixFault::Sides);
     }
     for i in 0..cell_size {
-        let byte = mix_byte(m, sides, row, sources, cell_size, i, cells);
+        let byte = mix_byte(entries, sides, row, sources, cell_size, i, cells);
         let at = byte_place(cells.len(), cell_size, target, i);
         cells[at] = byte;
     }

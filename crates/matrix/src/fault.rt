@@ -1,11 +1,18 @@
-// The sides of a matrix, and why a call on matrices refuses.
+// Matrices and their sides, and why a call on matrices refuses.
 ghost use Rattle.std.specs.Prelude.{◌≡◌};
 ghost use Rattle.matrix.specs.Faults.{number_of};
 
-#[derive(Clone, Copy)]
+#[derive(Clone, Copy, PartialEq, Eq, Debug)]
 pub struct Sides {
     pub rows: usize,
     pub cols: usize,
+}
+
+// A matrix that lies row by row in a slice. Nothing of it is checked: each call refuses sides that its entries do not fill.
+#[derive(Clone, Copy)]
+pub struct Matrix<'a, F> {
+    pub entries: &'a [F],
+    pub sides: Sides,
 }
 
 #[derive(Clone, Copy, PartialEq, Eq, Debug)]

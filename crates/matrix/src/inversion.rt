@@ -5,7 +5,7 @@ ghost use Rattle.matrix.specs.Grids.{grid, Area, RowIs, RowsTo};
 ghost use Rattle.matrix.specs.Inverted.{square_of, Room, Inverted};
 
 use super::elimination::eliminate;
-use super::fault::{MatrixFault, Sides};
+use super::fault::{Matrix, MatrixFault};
 use super::places::{area, clear, entry, is_side, put};
 use field::Field;
 
@@ -88,20 +88,16 @@ fn invert_square<F: Field>(
 }
 
 // The inverse of m into out. The elimination takes place in work, which needs twice as many entries as m and is left as zeros.
-pub fn invert<F: Field>(
-    m: &[F],
-    sides: Sides,
-    work: &mut [F],
-    out: &mut [F],
-) -> Result<(), MatrixFault>
-    ensures { Inverted F.Field.ops sides m.now work.old out.old work.new out.new result }
+pub fn invert<F: Field>(m: Matrix<'_, F>, work: &mut [F], out: &mut [F]) -> Result<(), MatrixFault>
+    ensures { Inverted F.Field.ops m.entry.sides m.entry.entries.now work.old out.old work.new out.new result }
 {
+    let Matrix { entries, sides } = m;
     let n = sides.rows;
     if !is_side(n) || sides.cols != n {
         return Err(MatrixFault::Sides);
     }
-    if m.len() < area(n, n) || work.len() < area(n, n + n) || out.len() < area(n, n) {
+    if entries.len() < area(n, n) || work.len() < area(n, n + n) || out.len() < area(n, n) {
         return Err(MatrixFault::Sides);
     }
-    invert_square(m, n, work, out)
+    invert_square(entries, n, work, out)
 }

@@ -10,6 +10,6 @@ mod product;
 mod rows;
 
 pub use action::act_on_cells;
-pub use fault::{MatrixFault, Sides};
+pub use fault::{Matrix, MatrixFault, Sides};
 pub use inversion::invert;
 pub use product::multiply;

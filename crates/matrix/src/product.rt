@@ -4,7 +4,7 @@ ghost use Rattle.algebra.specs.Matrices.{product};
 ghost use Rattle.matrix.specs.Grids.{grid, Area, RowIs};
 ghost use Rattle.matrix.specs.Products.{first_of, second_of, Fitting, Multiplied};
 
-use super::fault::{MatrixFault, Sides};
+use super::fault::{Matrix, MatrixFault};
 use super::places::{area, entry, is_side, put};
 use field::Field;
 
@@ -52,28 +52,26 @@ fn multiply_fitting<F: Field>(a: &[F], b: &[F], out: &mut [F], of: Shape)
 
 // a times b into out.
 pub fn multiply<F: Field>(
-    a: &[F],
-    a_sides: Sides,
-    b: &[F],
-    b_sides: Sides,
+    a: Matrix<'_, F>,
+    b: Matrix<'_, F>,
     out: &mut [F],
 ) -> Result<(), MatrixFault>
-    ensures { Multiplied F.Field.ops a_sides b_sides a.now b.now out.old out.new result }
+    ensures { Multiplied F.Field.ops a.entry.sides b.entry.sides a.entry.entries.now b.entry.entries.now out.old out.new result }
 {
     let of = Shape {
-        rows: a_sides.rows,
-        inner: a_sides.cols,
-        cols: b_sides.cols,
+        rows: a.sides.rows,
+        inner: a.sides.cols,
+        cols: b.sides.cols,
     };
-    if !is_side(of.rows) || !is_side(of.inner) || !is_side(of.cols) || b_sides.rows != of.inner {
+    if !is_side(of.rows) || !is_side(of.inner) || !is_side(of.cols) || b.sides.rows != of.inner {
         return Err(MatrixFault::Sides);
     }
-    if a.len() < area(of.rows, of.inner)
-        || b.len() < area(of.inner, of.cols)
+    if a.entries.len() < area(of.rows, of.inner)
+        || b.entries.len() < area(of.inner, of.cols)
         || out.len() < area(of.rows, of.cols)
     {
         return Err(MatrixFault::Sides);
     }
-    multiply_fitting(a, b, out, of);
+    multiply_fitting(a.entries, b.entries, out, of);
     Ok(())
 }

@@ -17,4 +17,4 @@ loop-i-preserved g c =
     row_more s c.args.target _ _ i c.mix_byte-byte.result _ _ (omega arith) c.loop-i.invariant
     (put_set 0 s c.args.target i c.byte_place-at.result c.mix_byte-byte.result c.loop-i.cells (omega arith) c.byte_place-at.ensures.value c.byte_place-at.ensures.bound)
     (c.mix_byte-byte.ensures
-    ∙ mixed_same g.met.F.Field.field c.args.sides.cols _ _ _ (λ k l. due s i c.args.target _ _ _ (omega arith) c.loop-i.invariant (get_or c.args.sources.now k 0)))
+    ∙ mixed_same g.met.F.Field.field c.args.m.sides.cols _ _ _ (λ k l. due s i c.args.target _ _ _ (omega arith) c.loop-i.invariant (get_or c.args.sources.now k 0)))
