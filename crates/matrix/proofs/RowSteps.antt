@@ -1,21 +1,8 @@
--- What one turn more of an exchange of rows and of a clearing leaves. Assumes nothing.
+-- What one turn more of a clearing leaves. Assumes nothing.
 use Rattle.std.proofs.Common.{◌≡◌, ℕ, ◌+◌, ◌<◌, sym, ◌∙◌, ap₂, arith, below_more}
 use Rattle.algebra.specs.Fields.{Ops}
-use Rattle.matrix.specs.Grids.{Put, RowIs}
-use Rattle.matrix.specs.Rows.{ExchangedTo, ClearTo}
-
-module _ {F : Type 0} (cols a b : ℕ) (ne : a ≡ b → ⊥) (w : ℕ → ℕ → F) where
-  pub exchange_more : (i : ℕ) (u v : F) (y z x : ℕ → ℕ → F) → i < cols → ExchangedTo cols i a b w y → u ≡ y a i → v ≡ y b i
-      → Put cols a i v y z → Put cols b i u z x → ExchangedTo cols (i + 1) a b w x
-  exchange_more i u v y z x h t eu ev p q = record {
-    first = below_more (λ c. x a c ≡ w b c) i (λ c l. q.others a c (omega arith) ne ∙ p.along c (omega arith) (λ e. omega arith) ∙ t.first c l)
-        (q.others a i h ne ∙ p.here ∙ ev ∙ t.second_todo i (omega arith) h);
-    second = below_more (λ c. x b c ≡ w a c) i (λ c l. q.along c (omega arith) (λ e. omega arith) ∙ p.others b c (omega arith) (λ e. ne (sym e)) ∙ t.second c l)
-        (q.here ∙ eu ∙ t.first_todo i (omega arith) h);
-    first_todo = λ c l o. q.others a c o ne ∙ p.along c o (λ e. omega arith) ∙ t.first_todo c (omega arith) o;
-    second_todo = λ c l o. q.along c o (λ e. omega arith) ∙ p.others b c o (λ e. ne (sym e)) ∙ t.second_todo c (omega arith) o;
-    others = λ r c l n o. q.others r c l o ∙ p.others r c l n ∙ t.others r c l n o;
-  }
+use Rattle.matrix.specs.Grids.{RowIs}
+use Rattle.matrix.specs.Rows.{ClearTo}
 
 module _ {F : Type 0} (K : Ops F) (cols k : ℕ) (kc : k < cols) (w : ℕ → ℕ → F) where
   -- row k itself is passed over

@@ -9,11 +9,9 @@ grid none cols m r c = slice_index_or m (r * cols + c) none
 abbrev pub zeroed : {F : Type 0} → F → ℕ → List F → List F
 zeroed none n m = replicate n none ++ drop n m
 
--- a list has room for a matrix
-pub record Area (rows cols len : ℕ) : Type 0 where
-  pub low : rows ≤ 16
-  pub narrow : cols ≤ 32
-  pub fits : rows * cols ≤ len
+-- of each entry, its row and its column P holds
+abbrev pub EachEntry : {F : Type 0} → ℕ → ℕ → (ℕ → ℕ → F → Type 0) → (ℕ → ℕ → F) → Type 0
+EachEntry rows cols P x = (r c : ℕ) → r < rows → c < cols → P r c (x r c)
 
 -- from w to x one entry became v
 pub record Put {F : Type 0} (cols row col : ℕ) (v : F) (w x : ℕ → ℕ → F) : Type 0 where

@@ -1,4 +1,4 @@
-// Matrices and their sides, and why a call on matrices refuses.
+// The sides of a matrix, and why a call on matrices refuses.
 ghost use Rattle.std.specs.Prelude.{◌≡◌};
 ghost use Rattle.matrix.specs.Faults.{number_of};
 
@@ -6,13 +6,6 @@ ghost use Rattle.matrix.specs.Faults.{number_of};
 pub struct Sides {
     pub rows: usize,
     pub cols: usize,
-}
-
-// A matrix that lies row by row in a slice. Nothing of it is checked: each call refuses sides that its entries do not fill.
-#[derive(Clone, Copy)]
-pub struct Matrix<'a, F> {
-    pub entries: &'a [F],
-    pub sides: Sides,
 }
 
 #[derive(Clone, Copy, PartialEq, Eq, Debug)]

@@ -7,4 +7,4 @@ abbrev pub invariant-loop-i : goal.invariant-loop-i
 invariant-loop-i g l =
     let K = g.F.Field.ops in
     let w = grid 0 l.cell_size l.initial.cells in
-    RowTo l.cell_size l.i l.target (λ i. mixed K l.sides.cols (grid K.zero l.sides.cols l.entries l.row) (λ k. w (get_or l.sources k 0) i)) w (grid 0 l.cell_size l.cells)
+    RowTo l.cell_size l.i l.target (λ i. mixed K l.grid.shape.cols (grid K.zero l.grid.shape.cols l.grid.entries.now l.row) (λ k. w (get_or l.sources k 0) i)) w (grid 0 l.cell_size l.cells)
