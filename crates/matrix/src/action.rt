@@ -3,6 +3,7 @@ ghost use Rattle.std.specs.Prelude.{◌≡◌, ◌+◌, ◌*◌, ◌/◌, ◌<�
 ghost use Rattle.algebra.specs.Matrices.{mixed};
 ghost use Rattle.matrix.specs.Acted.{Acted, EachBelow};
 ghost use Rattle.matrix.specs.Grids.{grid};
+ghost use Rattle.matrix.specs.Shapes.{entry_of};
 
 use super::cells::Cells;
 use super::fault::MatrixFault;
@@ -30,7 +31,7 @@ fn mix_byte<F: Field>(
     requires byte { i < of.size }
     requires one_each { m.now.shape.cols ≤ length sources.now }
     requires within { EachBelow m.now.shape.cols (of.len / of.size) sources.now }
-    ensures { result ≡ mixed F.Field.ops m.now.shape.cols (grid F.Field.ops.zero m.now.shape.cols m.now.entries.now row) (λ k. grid 0 of.size cells.now (slice_index sources.now k) i) }
+    ensures { result ≡ mixed F.Field.ops m.now.shape.cols (entry_of F.Field.ops.zero m.now row) (λ k. grid 0 of.size cells.now (slice_index sources.now k) i) }
 {
     let mut sum = 0u8;
     for (x, cell) in m.row(row).iter().zip(sources) {
@@ -50,7 +51,7 @@ pub fn act_on_cells<F: Field>(
 ) -> Result<(), MatrixFault>
     ensures { Acted F.Field.ops m.entry.entries.now m.entry.sides row sources.now cell_size target cells.old cells.new result }
 {
-    let grid = m.checked()?;
+    let grid = Grid::try_from(m)?;
     let cols = grid.shape.cols;
     if row >= grid.shape.rows || sources.len() < cols || cell_size == 0 {
         return Err(MatrixFault::Sides);

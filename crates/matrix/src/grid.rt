@@ -6,7 +6,7 @@ use super::shape::Shape;
 use field::Field;
 
 // A matrix that lies row by row in a slice. Nothing of it is checked: each call refuses sides that its entries do not fill.
-#[derive(Clone, Copy)]
+#[derive(Clone, Copy, PartialEq, Eq, Debug)]
 pub struct Matrix<'a, F> {
     pub entries: &'a [F],
     pub sides: Sides,
@@ -20,33 +20,34 @@ pub(crate) struct Grid<'a, F> {
     ghost room: { shape.rows * shape.cols ≤ length entries.now },
 }
 
-impl<'a, F: Field> Matrix<'a, F> {
-    ghost use Rattle.std.specs.Prelude.{MatchResult};
-    ghost use Rattle.matrix.specs.Shapes.{GridOf, Filled};
+// The matrix, where its sides are right and its entries fill them.
+impl<'a, F: Field> TryFrom<Matrix<'a, F>> for Grid<'a, F> {
+    ghost use Rattle.matrix.specs.Shapes.{GridOf};
 
-    // The matrix, where its sides are right and its entries fill them.
-    pub(crate) fn checked(self) -> Result<Grid<'a, F>, MatrixFault>
-        ensures { MatchResult result (GridOf self.entry.sides self.entry.entries.now) (λ e. (e ≡ MatrixFault.Sides) × ¬ Filled self.entry.sides (length self.entry.entries.now)) }
-    {
-        let shape = Shape::of(self.sides)?;
-        if self.entries.len() < shape.area() {
+    type Error = MatrixFault;
+
+    ghost try_from_gives = { GridOf };
+
+    fn try_from(m: Matrix<'a, F>) -> Result<Grid<'a, F>, MatrixFault> {
+        let shape = Shape::try_from(m.sides)?;
+        if m.entries.len() < shape.area() {
             return Err(MatrixFault::Sides);
         }
         Ok(Grid {
-            entries: self.entries,
+            entries: m.entries,
             shape,
         })
     }
 }
 
 impl<'a, F: Field> Grid<'a, F> {
-    ghost use Rattle.std.specs.Prelude.{ℕ, ◌+◌, ◌<◌, slice_index_or};
-    ghost use Rattle.matrix.specs.Grids.{grid};
+    ghost use Rattle.std.specs.Prelude.{ℕ, ◌<◌, slice_index_or};
+    ghost use Rattle.matrix.specs.Shapes.{entry_of};
 
     pub(crate) fn entry(&self, row: usize, col: usize) -> F
         requires row { row < self.now.shape.rows }
         requires col { col < self.now.shape.cols }
-        ensures { result ≡ grid F.Field.ops.zero self.now.shape.cols self.now.entries.now row col }
+        ensures { result ≡ entry_of F.Field.ops.zero self.now row col }
     {
         let i = self.shape.place(row, col);
         self.entries[i]
@@ -55,7 +56,7 @@ impl<'a, F: Field> Grid<'a, F> {
     pub(crate) fn row(&self, row: usize) -> &'a [F]
         requires { row < self.now.shape.rows }
         ensures len { length result.now ≡ self.now.shape.cols }
-        ensures entries { (c : ℕ) → c < self.now.shape.cols → slice_index_or result.now c F.Field.ops.zero ≡ grid F.Field.ops.zero self.now.shape.cols self.now.entries.now row c }
+        ensures entries { (c : ℕ) → c < self.now.shape.cols → slice_index_or result.now c F.Field.ops.zero ≡ entry_of F.Field.ops.zero self.now row c }
     {
         let start = self.shape.place(row, 0);
         &self.entries[start..start + self.shape.cols]

@@ -1,9 +1,8 @@
 // The inverse of a matrix, by elimination.
 ghost use Rattle.std.specs.Prelude.{◌≡◌, ◌+◌, ◌<◌, length};
 ghost use Rattle.algebra.specs.Elimination.{widened};
-ghost use Rattle.matrix.specs.Grids.{grid};
 ghost use Rattle.matrix.specs.Inverted.{Room, Inverted};
-ghost use Rattle.matrix.specs.Shapes.{sides_of};
+ghost use Rattle.matrix.specs.Shapes.{sides_of, entry_of};
 
 use super::elimination::eliminate;
 use super::fault::MatrixFault;
@@ -15,7 +14,7 @@ fn wide_entry<F: Field>(m: &Grid<'_, F>, row: usize, col: usize) -> F
     requires square { m.now.shape.cols ≡ m.now.shape.rows }
     requires row { row < m.now.shape.rows }
     requires col { col < m.now.shape.rows + m.now.shape.rows }
-    ensures { result ≡ widened F.Field.ops m.now.shape.rows (grid F.Field.ops.zero m.now.shape.cols m.now.entries.now) row col }
+    ensures { result ≡ widened F.Field.ops m.now.shape.rows (entry_of F.Field.ops.zero m.now) row col }
 {
     let n = m.shape.cols;
     if col < n {
@@ -37,7 +36,7 @@ fn invert_square<F: Field>(
     ensures { Inverted F.Field.ops (sides_of m.now.shape) m.now.entries.now work.old out.old work.new out.new result }
 {
     let square = m.shape;
-    let wide = square.widened();
+    let wide = square.widen();
     wide.fill(work, |r, c| wide_entry(m, r, c));
     if !eliminate(work, wide) {
         wide.clear(work);
@@ -57,12 +56,12 @@ fn invert_square<F: Field>(
 pub fn invert<F: Field>(m: Matrix<'_, F>, work: &mut [F], out: &mut [F]) -> Result<(), MatrixFault>
     ensures { Inverted F.Field.ops m.entry.sides m.entry.entries.now work.old out.old work.new out.new result }
 {
-    let square = m.checked()?;
+    let square = Grid::try_from(m)?;
     let shape = square.shape;
     if shape.cols != shape.rows {
         return Err(MatrixFault::Sides);
     }
-    if work.len() < shape.widened().area() || out.len() < shape.area() {
+    if work.len() < shape.widen().area() || out.len() < shape.area() {
         return Err(MatrixFault::Sides);
     }
     invert_square(&square, work, out)

@@ -1,8 +1,8 @@
 // The product of two matrices.
-ghost use Rattle.std.specs.Prelude.{◌≡◌, ◌*◌, ◌<◌, ◌≤◌, length, drop};
+ghost use Rattle.std.specs.Prelude.{◌≡◌, ◌<◌};
 ghost use Rattle.algebra.specs.Matrices.{product};
-ghost use Rattle.matrix.specs.Grids.{grid, EachEntry};
 ghost use Rattle.matrix.specs.Products.{Multiplied};
+ghost use Rattle.matrix.specs.Shapes.{entry_of};
 
 use super::fault::{MatrixFault, Sides};
 use super::grid::{Grid, Matrix};
@@ -14,7 +14,7 @@ fn row_times_column<F: Field>(a: &Grid<'_, F>, b: &Grid<'_, F>, row: usize, col:
     requires alike { b.now.shape.rows ≡ a.now.shape.cols }
     requires row { row < a.now.shape.rows }
     requires col { col < b.now.shape.cols }
-    ensures { result ≡ product F.Field.ops a.now.shape.cols (grid F.Field.ops.zero a.now.shape.cols a.now.entries.now) (grid F.Field.ops.zero b.now.shape.cols b.now.entries.now) row col }
+    ensures { result ≡ product F.Field.ops a.now.shape.cols (entry_of F.Field.ops.zero a.now) (entry_of F.Field.ops.zero b.now) row col }
 {
     let mut total = F::zero();
     for (k, x) in a.row(row).iter().enumerate() {
@@ -31,9 +31,9 @@ pub fn multiply<F: Field>(
 ) -> Result<(), MatrixFault>
     ensures { Multiplied F.Field.ops a.entry.sides b.entry.sides a.entry.entries.now b.entry.entries.now out.old out.new result }
 {
-    let first = a.checked()?;
-    let second = b.checked()?;
-    let of = Shape::of(Sides {
+    let first = Grid::try_from(a)?;
+    let second = Grid::try_from(b)?;
+    let of = Shape::try_from(Sides {
         rows: a.sides.rows,
         cols: b.sides.cols,
     })?;

@@ -2,6 +2,7 @@
 ghost use Rattle.std.specs.Prelude.{◌≡◌, ◌*◌, ◌<◌, ◌≤◌, length, ◌≢◌};
 ghost use Rattle.matrix.specs.Grids.{grid, RowIs};
 ghost use Rattle.matrix.specs.Rows.{Exchanged, ClearTo, Pivot};
+ghost use Rattle.matrix.specs.Shapes.{entry_of};
 
 use super::grid::Grid;
 use super::shape::Shape;
@@ -65,7 +66,7 @@ pub(crate) fn clear_column<F: Field>(m: &mut [F], shape: Shape, k: usize)
 // The first row from k on whose entry in column k can be a pivot.
 pub(crate) fn pivot<F: Field>(m: &Grid<'_, F>, k: usize) -> Option<usize>
     requires { k < m.now.shape.cols }
-    ensures { Pivot F.Field.ops.zero m.now.shape.rows k (grid F.Field.ops.zero m.now.shape.cols m.now.entries.now) result }
+    ensures { Pivot F.Field.ops.zero m.now.shape.rows k (entry_of F.Field.ops.zero m.now) result }
 {
     let mut r = k;
     // Stays: the project asks for a labelled loop here that is left with the row found.

@@ -22,15 +22,15 @@ pub(crate) struct Shape {
     ghost few_cols: { cols ≤ 32 },
 }
 
-impl Shape {
-    ghost use Rattle.std.specs.Prelude.{MatchResult};
-    ghost use Rattle.matrix.specs.Grids.{grid, zeroed, EachEntry};
-    ghost use Rattle.matrix.specs.Shapes.{RightSides, SidesOf};
+// The sides, where each is one of a matrix.
+impl TryFrom<Sides> for Shape {
+    ghost use Rattle.matrix.specs.Shapes.{ShapeOf};
 
-    // The sides, where each is one of a matrix.
-    pub(crate) fn of(sides: Sides) -> Result<Shape, MatrixFault>
-        ensures { MatchResult result (SidesOf sides) (λ e. (e ≡ MatrixFault.Sides) × ¬ RightSides sides) }
-    {
+    type Error = MatrixFault;
+
+    ghost try_from_gives = { ShapeOf };
+
+    fn try_from(sides: Sides) -> Result<Shape, MatrixFault> {
         if !is_side(sides.rows) || !is_side(sides.cols) {
             return Err(MatrixFault::Sides);
         }
@@ -39,9 +39,13 @@ impl Shape {
             cols: sides.cols,
         })
     }
+}
+
+impl Shape {
+    ghost use Rattle.matrix.specs.Grids.{grid, zeroed, EachEntry};
 
     // The same rows, with as many columns more.
-    pub(crate) fn widened(self) -> Shape
+    pub(crate) fn widen(self) -> Shape
         requires { self.cols ≤ 16 }
         ensures rows { result.rows ≡ self.rows }
         ensures cols { result.cols ≡ self.cols + self.cols }

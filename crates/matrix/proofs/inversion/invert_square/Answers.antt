@@ -10,9 +10,9 @@ pub returns-then-not-eliminate : goal.returns-then-not-eliminate
 returns-then-not-eliminate g c =
     let K = g.F.Field.ops in
     let m = c.args.m.now in
-    let wide = c.widened-wide.result in
-    let rows = c.widened-wide.ensures.rows in
-    let cols = c.widened-wide.ensures.cols in
+    let wide = c.widen-wide.result in
+    let rows = c.widen-wide.ensures.rows in
+    let cols = c.widen-wide.ensures.cols in
     let laid = λ (r j : ℕ) (h : r < wide.rows) (l : j < wide.rows + wide.rows).
     let e = c.fill.ensures.entries r j (omega arith) (omega arith) in
     let p : grid K.zero wide.cols c.fill.new.out r j ≡ widened K m.shape.rows (grid K.zero m.shape.cols m.entries.now) r j = search rules in
@@ -29,9 +29,9 @@ pub returns : goal.returns
 returns g c =
     let K = g.F.Field.ops in
     let m = c.args.m.now in
-    let wide = c.widened-wide.result in
-    let rows = c.widened-wide.ensures.rows in
-    let cols = c.widened-wide.ensures.cols in
+    let wide = c.widen-wide.result in
+    let rows = c.widen-wide.ensures.rows in
+    let cols = c.widen-wide.ensures.cols in
     let laid = λ (r j : ℕ) (h : r < wide.rows) (l : j < wide.rows + wide.rows).
     let e = c.fill.ensures.entries r j (omega arith) (omega arith) in
     let p : grid K.zero wide.cols c.fill.new.out r j ≡ widened K m.shape.rows (grid K.zero m.shape.cols m.entries.now) r j = search rules in
