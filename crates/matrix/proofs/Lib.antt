@@ -1,4 +1,3 @@
 pub mod Grids
 pub mod Parts
-pub mod RowSteps
 pub mod Turns
