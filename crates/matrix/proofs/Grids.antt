@@ -1,11 +1,9 @@
 -- Matrices that lie row by row in lists: their places, and what writes leave of them. Assumes nothing.
-use Rattle.std.proofs.Common.{◌≡◌, ℕ, ◌+◌, ◌-◌, ◌*◌, ◌/◌, ◌%◌, ◌<◌, ◌≤◌, List, ◌++◌, length, get_or, take, drop, set, replicate, sym, ap, ◌∙◌, subst, add_assoc, mod-lt, add-mul, div-add-mod', add-one, arith, length-drop, take-append-drop, get_or-set_other, get_or-set_same, below_more}
+use Rattle.std.proofs.Common.{◌≡◌, ℕ, ◌+◌, ◌-◌, ◌*◌, ◌/◌, ◌%◌, ◌<◌, ◌≤◌, List, ◌++◌, length, get_or, take, drop, set, replicate, sym, ap, ◌∙◌, subst, add_assoc, mod-lt, add-mul, div-add-mod', arith, length-drop, take-append-drop, get_or-set_other, get_or-set_same, below_more}
 use Rattle.std.proofs.Math.Nat.{div-lt_iff_lt-mul}
 use Rattle.std.proofs.lemmas.Nat.{div-mul-add, mod-mul-add, mul-add-lt}
 use Rattle.std.proofs.lemmas.List.{ext_get_or, get_or_default, get_or-drop, get_or-take, get_or_append_left, get_or-replicate, length-replicate, length-take-le}
-use Rattle.algebra.specs.Fields.{Ops}
-use Rattle.algebra.specs.Sums.{sum}
-use Rattle.matrix.specs.Grids.{grid, zeroed, EachEntry, RowTo, Beyond}
+use Rattle.matrix.specs.Grids.{grid, zeroed, EachEntry, Beyond}
 
 -- two places of one matrix are one only where both row and column are
 place_row : (cols r c s d : ℕ) → c < cols → d < cols → r * cols + c ≡ s * cols + d → r ≡ s
@@ -41,7 +39,13 @@ all_zero none rows cols w x some fits zero rest =
     ∙ zero (i / cols) (i % cols) ((div-lt_iff_lt-mul some).1 l) (mod-lt i some) ∙ sym (get_or-replicate n i none none l)))
     ∙ ap (λ l. replicate n none ++ l) rest
 
--- one entry more of a row was written
+-- from w to x one row became f up to column i
+pub record RowTo {F : Type 0} (cols i row : ℕ) (f : ℕ → F) (w x : ℕ → ℕ → F) : Type 0 where
+  pub done : (c : ℕ) → c < i → x row c ≡ f c
+  pub todo : (c : ℕ) → i ≤ c → c < cols → x row c ≡ w row c
+  pub others : (r c : ℕ) → c < cols → (r ≡ row → ⊥) → x r c ≡ w r c
+
+-- one entry more was written
 module _ {F : Type 0} (none : F) (cols row : ℕ) (f : ℕ → F) (w : ℕ → ℕ → F) where
   pub row_more : (i place : ℕ) (v : F) (y : List F) → i < cols → place ≡ row * cols + i → place < length y → RowTo cols i row f w (grid none cols y)
       → v ≡ f i → RowTo cols (i + 1) row f w (grid none cols (set y place v))
@@ -72,7 +76,3 @@ beyond_list none rows cols w x h e b =
 pub zeroed_after : {F : Type 0} (none : F) (rows cols : ℕ) (w v x y : List F) → 0 < cols → length x ≡ length v → drop (rows * cols) v ≡ drop (rows * cols) w
     → Beyond rows cols (grid none cols v) (grid none cols x) → y ≡ zeroed none (rows * cols) x → y ≡ zeroed none (rows * cols) w
 zeroed_after none rows cols w v x y h e a b z = z ∙ ap (λ l. replicate (rows * cols) none ++ l) (beyond_list none rows cols v x h e b ∙ a)
-
--- one term more of a sum
-pub sum_more : {F : Type 0} (K : Ops F) (n : ℕ) (f : ℕ → F) → sum K (n + 1) f ≡ K.plus (sum K n f) (f n)
-sum_more K n f = ap (λ (m : ℕ). sum K m f) (add-one n)

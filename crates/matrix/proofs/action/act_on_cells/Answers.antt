@@ -5,9 +5,9 @@ use Rattle.algebra.specs.Matrices.{mixed}
 use Rattle.algebra.proofs.Numbers.{same_or_not}
 use Rattle.algebra.proofs.Bytes.{mixed_same}
 use Rattle.matrix.specs.Acted.{EachBelow}
-use Rattle.matrix.specs.Grids.{grid, RowIs, RowTo}
+use Rattle.matrix.specs.Grids.{grid, RowIs}
 use Rattle.matrix.specs.Shapes.{entry_of}
-use Rattle.matrix.proofs.Grids.{row_more}
+use Rattle.matrix.proofs.Grids.{RowTo, row_more}
 use Rattle.matrix.proofs.action.act_on_cells.Goals as goal
 
 -- column i of every cell is as it was when byte i is due

@@ -1,6 +1,7 @@
 use Rattle.std.proofs.Common.{get_or}
 use Rattle.algebra.specs.Matrices.{mixed}
-use Rattle.matrix.specs.Grids.{grid, RowTo}
+use Rattle.matrix.specs.Grids.{grid}
+use Rattle.matrix.proofs.Grids.{RowTo}
 use Rattle.matrix.proofs.action.act_on_cells.Given as goal
 
 abbrev pub invariant-loop-i : goal.invariant-loop-i

@@ -1,4 +1,5 @@
-use Rattle.matrix.specs.Grids.{grid, RowTo}
+use Rattle.matrix.specs.Grids.{grid}
+use Rattle.matrix.proofs.Grids.{RowTo}
 use Rattle.matrix.proofs.rows.subtract_row.Given as goal
 
 abbrev pub invariant-loop-c : goal.invariant-loop-c
