@@ -25,9 +25,7 @@ impl Field for Gf2 {
     }
 
     fn sub(self, other: Gf2) -> Gf2 {
-        Gf2 {
-            bit: self.bit ^ other.bit,
-        }
+        self.add(other)
     }
 
     fn mul(self, other: Gf2) -> Gf2 {
