@@ -1,5 +1,5 @@
 // A row of a matrix acting on cells of bytes that lie one after another in a buffer.
-ghost use Rattle.std.specs.Prelude.{◌≡◌, ◌+◌, ◌*◌, ◌/◌, ◌<◌, ◌≤◌, length, Decides, slice_index};
+ghost use Rattle.std.specs.Prelude.{◌≡◌, ◌+◌, ◌*◌, ◌/◌, ◌<◌, ◌≤◌, ◌↔◌, length, IsTrue, slice_index};
 ghost use Rattle.algebra.specs.Matrices.{mixed};
 ghost use Rattle.matrix.specs.Acted.{Acted, EachBelow};
 ghost use Rattle.matrix.specs.Grids.{grid};
@@ -12,7 +12,7 @@ use field::Field;
 
 // Whether each of the numbers is below the bound.
 fn all_below(cells: &[usize], bound: usize) -> bool
-    ensures { Decides result (EachBelow (length cells.now) bound cells.now) }
+    ensures { IsTrue result ↔ EachBelow (length cells.now) bound cells.now }
 {
     cells.iter().all(|cell| *cell < bound)
 }

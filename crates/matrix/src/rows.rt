@@ -8,6 +8,7 @@ use super::grid::Grid;
 use super::shape::Shape;
 use field::Field;
 
+// Stays: each step takes the lent slice beside its shape; a struct that held both would have each step ensure that it still holds this slice and this shape, two facts for the one on its room.
 // Row a and a row b below it change places.
 pub(crate) fn swap_rows<F: Field>(m: &mut [F], shape: Shape, a: usize, b: usize)
     requires room { shape.rows * shape.cols ≤ length m.old }
@@ -32,19 +33,21 @@ pub(crate) fn scale_row<F: Field>(m: &mut [F], shape: Shape, row: usize, by: F)
     }
 }
 
-// Takes a row, times an element, from another.
-fn subtract_row<F: Field>(m: &mut [F], shape: Shape, row: usize, from: usize, by: F)
+// Takes row k, which has a one in column k, from another row, times the entry there in column k.
+fn clear_entry<F: Field>(m: &mut [F], shape: Shape, row: usize, k: usize)
     requires room { shape.rows * shape.cols ≤ length m.old }
     requires within { row < shape.rows }
-    requires other { from < shape.rows }
-    requires apart { from ≢ row }
-    ensures { RowIs shape.cols row (λ c. F.Field.ops.minus (grid F.Field.ops.zero shape.cols m.old row c) (F.Field.ops.times by (grid F.Field.ops.zero shape.cols m.old from c))) (grid F.Field.ops.zero shape.cols m.old) (grid F.Field.ops.zero shape.cols m.new) }
+    requires lead { k < shape.rows }
+    requires col { k < shape.cols }
+    requires apart { k ≢ row }
+    ensures { RowIs shape.cols row (λ c. F.Field.ops.minus (grid F.Field.ops.zero shape.cols m.old row c) (F.Field.ops.times (grid F.Field.ops.zero shape.cols m.old row k) (grid F.Field.ops.zero shape.cols m.old k c))) (grid F.Field.ops.zero shape.cols m.old) (grid F.Field.ops.zero shape.cols m.new) }
 {
+    let by = m[shape.place(row, k)];
     // Stays: both rows lie in one slice; parts cut from it take a case for either order of the rows, and are no plainer.
     for c in 0..shape.cols {
-        let x = m[shape.place(row, c)];
-        let y = m[shape.place(from, c)];
-        m[shape.place(row, c)] = x.sub(by.mul(y));
+        let at = shape.place(row, c);
+        let lead = shape.place(k, c);
+        m[at] = m[at].sub(by.mul(m[lead]));
     }
 }
 
@@ -57,8 +60,7 @@ pub(crate) fn clear_column<F: Field>(m: &mut [F], shape: Shape, k: usize)
 {
     for r in 0..shape.rows {
         if r != k {
-            let by = m[shape.place(r, k)];
-            subtract_row(m, shape, r, k, by);
+            clear_entry(m, shape, r, k);
         }
     }
 }

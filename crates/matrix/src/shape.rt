@@ -1,12 +1,12 @@
 // The sides of a matrix that were found right, and the writing of one that lies row by row in a slice.
-ghost use Rattle.std.specs.Prelude.{◌≡◌, ℕ, ◌+◌, ◌*◌, ◌<◌, ◌≤◌, length, drop, Decides};
+ghost use Rattle.std.specs.Prelude.{◌≡◌, ℕ, ◌+◌, ◌*◌, ◌<◌, ◌≤◌, ◌↔◌, length, drop, IsTrue};
 
 use super::fault::{MatrixFault, Sides};
 use field::Field;
 
 // Whether a side may be one of a matrix.
 fn is_side(n: usize) -> bool
-    ensures { Decides result ((0 < n) × (n ≤ 16)) }
+    ensures { IsTrue result ↔ ((0 < n) × (n ≤ 16)) }
 {
     n > 0 && n <= 16
 }
