@@ -1,7 +1,6 @@
 -- The laws of the field of two elements. Assumes nothing.
 use Rattle.std.specs.Prelude.{◌≡◌, ℕ, ◌<◌, Bool, true, false, cond, ◌&&◌, ◌⊎◌, ◌≢◌, bit_xor, refl}
 use Rattle.std.proofs.Common.{sym, ap, inl, inr, lit<}
-use borrow.Author.Tests.{clash}
 use Rattle.std.specs.Int.Bits.{xor_self, xor_zero_r}
 use Rattle.field.specs.declared.gf2.Gf2.{Gf2}
 use Rattle.algebra.specs.Fields.{FieldLaws}
@@ -42,12 +41,15 @@ and_xor false y z = refl
 unbit : (x : Gf2) (b : Bool) → x ≡ bit_of b → x.bit ≡ b
 unbit x b e = ap (λ (y : Gf2). y.bit) e
 
+true_not_false : true ≡ false → ⊥
+true_not_false e = cc
+
 own : (b : Bool) → (b ≢ false) → (b && b) ≡ true
 own true n = refl
 own false n = absurd (n refl)
 
 zero_or_not : (b : Bool) → (bit_of b ≡ bit_of false) ⊎ (bit_of b ≢ bit_of false)
-zero_or_not true = inr (λ e. clash (sym (unbit (bit_of true) false e)))
+zero_or_not true = inr (λ e. true_not_false (unbit (bit_of true) false e))
 zero_or_not false = inl refl
 
 act_byte : (t : Bool) (b : ℕ) → b < 256 → cond t b 0 < 256
@@ -79,7 +81,7 @@ laws2 = record {
   times_assoc = λ x y z. ap bit_of (and_grouped x.bit y.bit z.bit);
   times_plus = λ x y z. ap bit_of (and_xor x.bit y.bit z.bit);
   times_inverse = λ x n. ap bit_of (own x.bit (λ e. n (ap bit_of e)));
-  one_not_zero = λ e. clash (sym (unbit (bit_of true) false e));
+  one_not_zero = λ e. true_not_false (unbit (bit_of true) false e);
   zero_or_not = λ x. zero_or_not x.bit;
   act_byte = λ x b h. act_byte x.bit b h;
   act_one = λ b h. refl;

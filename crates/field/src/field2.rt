@@ -25,9 +25,7 @@ impl Field for Gf2 {
     }
 
     fn sub(self, other: Gf2) -> Gf2 {
-        Gf2 {
-            bit: self.bit ^ other.bit,
-        }
+        self.add(other)
     }
 
     fn mul(self, other: Gf2) -> Gf2 {
@@ -41,7 +39,7 @@ impl Field for Gf2 {
     }
 
     fn inverse(self) -> Option<Gf2> {
-        if self.bit { Some(self) } else { None }
+        self.bit.then_some(self)
     }
 
     fn act(self, byte: u8) -> u8 {

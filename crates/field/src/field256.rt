@@ -26,9 +26,7 @@ impl Field for Gf256 {
     }
 
     fn sub(self, other: Gf256) -> Gf256 {
-        Gf256 {
-            value: self.value ^ other.value,
-        }
+        self.add(other)
     }
 
     fn mul(self, other: Gf256) -> Gf256 {

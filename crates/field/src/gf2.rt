@@ -1,5 +1,5 @@
 // An element of the field of two elements.
-#[derive(Clone, Copy)]
+#[derive(Clone, Copy, PartialEq, Eq, Debug)]
 pub struct Gf2 {
     pub bit: bool,
 }

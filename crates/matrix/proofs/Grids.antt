@@ -1,10 +1,9 @@
--- What one write more leaves of a matrix. Assumes nothing.
-use Rattle.std.proofs.Common.{◌≡◌, ℕ, zero, suc, ◌+◌, ◌-◌, ◌*◌, ◌/◌, ◌%◌, ◌<◌, List, [], ◌∷◌, ◌++◌, length, get_or, drop, set, replicate, sym, refl, ap, ◌∙◌, not-suc-le-zero, add_assoc, mod-lt, add-mul, div-add-mod', add-one, arith, length-drop, get_or-set_other, get_or-set_same, below_more}
-use Rattle.std.proofs.lemmas.Nat.{div-mul-add, mod-mul-add}
-use Rattle.std.proofs.lemmas.List.{ext_get_or, get_or-drop}
-use Rattle.algebra.specs.Fields.{Ops}
-use Rattle.algebra.specs.Sums.{sum}
-use Rattle.matrix.specs.Grids.{grid, zeroed, Put, RowIs, RowTo, RowsTo, Beyond}
+-- Matrices that lie row by row in lists: their places, and what writes leave of them. Assumes nothing.
+use Rattle.std.proofs.Common.{◌≡◌, ℕ, ◌+◌, ◌-◌, ◌*◌, ◌/◌, ◌%◌, ◌<◌, ◌≤◌, List, ◌++◌, length, get_or, take, drop, set, replicate, sym, ap, ◌∙◌, subst, add_assoc, mod-lt, add-mul, div-add-mod', arith, length-drop, take-append-drop, get_or-set_other, get_or-set_same, below_more}
+use Rattle.std.proofs.Math.Nat.{div-lt_iff_lt-mul}
+use Rattle.std.proofs.lemmas.Nat.{div-mul-add, mod-mul-add, mul-add-lt}
+use Rattle.std.proofs.lemmas.List.{ext_get_or, get_or_default, get_or-drop, get_or-take, get_or_append_left, get_or-replicate, length-replicate, length-take-le}
+use Rattle.matrix.specs.Grids.{grid, zeroed, EachEntry, Beyond}
 
 -- two places of one matrix are one only where both row and column are
 place_row : (cols r c s d : ℕ) → c < cols → d < cols → r * cols + c ≡ s * cols + d → r ≡ s
@@ -13,36 +12,52 @@ place_row cols r c s d hc hd e = sym (div-mul-add r cols c hc) ∙ ap (λ (i : �
 place_col : (cols r c s d : ℕ) → c < cols → d < cols → r * cols + c ≡ s * cols + d → c ≡ d
 place_col cols r c s d hc hd e = sym (mod-mul-add r cols c hc) ∙ ap (λ (i : ℕ). i % cols) e ∙ mod-mul-add s cols d hd
 
-pub put_set : {F : Type 0} (none : F) (cols row col i : ℕ) (v : F) (m : List F) → col < cols → i ≡ row * cols + col → i < length m → Put cols row col v (grid none cols m) (grid none cols (set m i v))
-put_set none cols row col i v m h e l = record {
-  here = ap (λ (j : ℕ). get_or (set m i v) j none) (sym e) ∙ get_or-set_same m i v none l;
-  along = λ c hc ne. get_or-set_other m i (row * cols + c) v none (λ q. ne (place_col cols row c row col hc h (q ∙ e)));
-  others = λ r c hc ne. get_or-set_other m i (r * cols + c) v none (λ q. ne (place_row cols r c row col hc h (q ∙ e)));
-}
+-- what was read at the place of an entry is the entry
+pub read_is : {F : Type 0} (none x : F) (cols r c place : ℕ) (m : List F) → place ≡ r * cols + c → place < length m → x ≡ get_or m place x → x ≡ grid none cols m r c
+read_is none x cols r c place m p h e = e ∙ get_or_default m place x none h ∙ ap (λ (j : ℕ). get_or m j none) p
 
-module _ {F : Type 0} (cols row : ℕ) (f : ℕ → F) (w : ℕ → ℕ → F) where
-  pub row_more : (i : ℕ) (v : F) (y x : ℕ → ℕ → F) → i < cols → RowTo cols i row f w y → Put cols row i v y x → v ≡ f i → RowTo cols (i + 1) row f w x
-  row_more i v y x h t p e = record {
-    done = below_more (λ c. x row c ≡ f c) i (λ c l. p.along c (omega arith) (λ q. omega arith) ∙ t.done c l) (p.here ∙ e);
-    todo = λ c l o. p.along c o (λ q. omega arith) ∙ t.todo c (omega arith) o;
-    others = λ r c l n. p.others r c l n ∙ t.others r c l n;
+-- what holds of each place of a list of entries holds of each row and column
+pub each_entry : {F : Type 0} (none : F) (rows cols : ℕ) (P : ℕ → ℕ → F → Type 0) (x y : List F) → rows * cols ≤ length x
+    → ((k : ℕ) → k < rows * cols → P (k / cols) (k % cols) (get_or x k none)) → EachEntry rows cols P (grid none cols (x ++ y))
+each_entry none rows cols P x y fits h r c hr hc =
+    let within = mul-add-lt r cols c rows hr hc in
+    let l : r * cols + c < rows * cols = omega arith in
+    subst (P r c) (sym (get_or_append_left x y none (r * cols + c) (omega arith)))
+    (subst (λ (j : ℕ). P r j (get_or x (r * cols + c) none)) (mod-mul-add r cols c hc)
+    (subst (λ (i : ℕ). P i ((r * cols + c) % cols) (get_or x (r * cols + c) none)) (div-mul-add r cols c hc) (h (r * cols + c) l)))
+
+-- zeros in each entry
+pub all_zero : {F : Type 0} (none : F) (rows cols : ℕ) (w x : List F) → 0 < cols → rows * cols ≤ length x
+    → EachEntry rows cols (λ r c v. v ≡ none) (grid none cols x) → drop (rows * cols) x ≡ drop (rows * cols) w → x ≡ zeroed none (rows * cols) w
+all_zero none rows cols w x some fits zero rest =
+    let n = rows * cols in
+    let len = length-take-le n x fits in
+    sym (take-append-drop n x)
+    ∙ ap (λ l. l ++ drop n x) (ext_get_or none (take n x) (replicate n none) (len ∙ sym (length-replicate n none))
+    (λ i h. let l : i < n = omega arith in
+    get_or-take n x i none l ∙ ap (λ (j : ℕ). get_or x j none) (sym (div-add-mod' i cols))
+    ∙ zero (i / cols) (i % cols) ((div-lt_iff_lt-mul some).1 l) (mod-lt i some) ∙ sym (get_or-replicate n i none none l)))
+    ∙ ap (λ l. replicate n none ++ l) rest
+
+-- from w to x one row became f up to column i
+pub record RowTo {F : Type 0} (cols i row : ℕ) (f : ℕ → F) (w x : ℕ → ℕ → F) : Type 0 where
+  pub done : (c : ℕ) → c < i → x row c ≡ f c
+  pub todo : (c : ℕ) → i ≤ c → c < cols → x row c ≡ w row c
+  pub others : (r c : ℕ) → c < cols → (r ≡ row → ⊥) → x r c ≡ w r c
+
+-- one entry more was written
+module _ {F : Type 0} (none : F) (cols row : ℕ) (f : ℕ → F) (w : ℕ → ℕ → F) where
+  pub row_more : (i place : ℕ) (v : F) (y : List F) → i < cols → place ≡ row * cols + i → place < length y → RowTo cols i row f w (grid none cols y)
+      → v ≡ f i → RowTo cols (i + 1) row f w (grid none cols (set y place v))
+  row_more i place v y h p l t e = record {
+    done = below_more (λ c. grid none cols (set y place v) row c ≡ f c) i (λ c o. other row c (omega arith) (λ q. let m = place_col cols row c row i (omega arith) h q in omega arith) ∙ t.done c o)
+        (ap (λ (j : ℕ). get_or (set y place v) j none) (sym p) ∙ get_or-set_same y place v none l ∙ e);
+    todo = λ c o u. other row c u (λ q. let m = place_col cols row c row i u h q in omega arith) ∙ t.todo c (omega arith) u;
+    others = λ r c u n. other r c u (λ q. n (place_row cols r c row i u h q)) ∙ t.others r c u n;
   }
-
-pub rows_more : {F : Type 0} (cols i : ℕ) (f w y x : ℕ → ℕ → F) → RowsTo cols i f w y → RowIs cols i (f i) y x → RowsTo cols (i + 1) f w x
-rows_more cols i f w y x t q = record {
-  done = λ r c h l. below_more (λ r. x r c ≡ f r c) i (λ r o. q.others r c l (λ e. omega arith) ∙ t.done r c o l) (q.this c l) r h;
-  todo = λ r c h l. q.others r c l (λ e. omega arith) ∙ t.todo r c (omega arith) l;
-}
-
--- one zero more
-zero_suc : {F : Type 0} (v : F) (n : ℕ) (m : List F) → n < length m → set (zeroed v n m) n v ≡ zeroed v (suc n) m
-zero_suc v zero [] h = absurd (not-suc-le-zero h)
-zero_suc v zero (x ∷ m) h = refl
-zero_suc v (suc n) [] h = absurd (not-suc-le-zero h)
-zero_suc v (suc n) (x ∷ m) h = ap (λ l. v ∷ l) (zero_suc v n m (omega arith))
-
-pub zero_more : {F : Type 0} (v : F) (n : ℕ) (m : List F) → n < length m → set (zeroed v n m) n v ≡ zeroed v (n + 1) m
-zero_more v n m h = zero_suc v n m h ∙ ap (λ (i : ℕ). zeroed v i m) (sym (add-one n))
+    where
+      other : (r c : ℕ) → c < cols → (r * cols + c ≡ row * cols + i → ⊥) → grid none cols (set y place v) r c ≡ grid none cols y r c
+      other r c u ne = get_or-set_other y place (r * cols + c) v none (λ q. ne (q ∙ p))
 
 -- ---- what lies past a matrix, as a list
 split_place : (rows cols i : ℕ) → 0 < cols → rows * cols + i ≡ (rows + i / cols) * cols + i % cols
@@ -57,9 +72,7 @@ beyond_list none rows cols w x h e b =
     ∙ b (rows + i / cols) (i % cols) (omega arith) (mod-lt i h)
     ∙ sym (get_or-drop (rows * cols) w i none ∙ ap (λ (j : ℕ). get_or w j none) (split_place rows cols i h)))
 
-pub zeroed_same : {F : Type 0} (v : F) (k n : ℕ) (a b : List F) → k ≡ n → drop n a ≡ drop n b → zeroed v k a ≡ zeroed v n b
-zeroed_same v k n a b e h = ap (λ (i : ℕ). zeroed v i a) e ∙ ap (λ l. replicate n v ++ l) h
-
--- one term more of a sum
-pub sum_more : {F : Type 0} (K : Ops F) (n : ℕ) (f : ℕ → F) → sum K (n + 1) f ≡ K.plus (sum K n f) (f n)
-sum_more K n f = ap (λ (m : ℕ). sum K m f) (add-one n)
+-- zeros after writes that left what lies past the matrix
+pub zeroed_after : {F : Type 0} (none : F) (rows cols : ℕ) (w v x y : List F) → 0 < cols → length x ≡ length v → drop (rows * cols) v ≡ drop (rows * cols) w
+    → Beyond rows cols (grid none cols v) (grid none cols x) → y ≡ zeroed none (rows * cols) x → y ≡ zeroed none (rows * cols) w
+zeroed_after none rows cols w v x y h e a b z = z ∙ ap (λ l. replicate (rows * cols) none ++ l) (beyond_list none rows cols v x h e b ∙ a)

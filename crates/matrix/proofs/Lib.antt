@@ -1,3 +1,3 @@
 pub mod Grids
-pub mod RowSteps
+pub mod Parts
 pub mod Turns

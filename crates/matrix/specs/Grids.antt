@@ -9,33 +9,14 @@ grid none cols m r c = slice_index_or m (r * cols + c) none
 abbrev pub zeroed : {F : Type 0} → F → ℕ → List F → List F
 zeroed none n m = replicate n none ++ drop n m
 
--- a list has room for a matrix
-pub record Area (rows cols len : ℕ) : Type 0 where
-  pub low : rows ≤ 16
-  pub narrow : cols ≤ 32
-  pub fits : rows * cols ≤ len
-
--- from w to x one entry became v
-pub record Put {F : Type 0} (cols row col : ℕ) (v : F) (w x : ℕ → ℕ → F) : Type 0 where
-  pub here : x row col ≡ v
-  pub along : (c : ℕ) → c < cols → (c ≢ col) → x row c ≡ w row c
-  pub others : (r c : ℕ) → c < cols → (r ≢ row) → x r c ≡ w r c
+-- of each entry, its row and its column P holds
+abbrev pub EachEntry : {F : Type 0} → ℕ → ℕ → (ℕ → ℕ → F → Type 0) → (ℕ → ℕ → F) → Type 0
+EachEntry rows cols P x = (r c : ℕ) → r < rows → c < cols → P r c (x r c)
 
 -- from w to x one row became f
 pub record RowIs {F : Type 0} (cols row : ℕ) (f : ℕ → F) (w x : ℕ → ℕ → F) : Type 0 where
   pub this : (c : ℕ) → c < cols → x row c ≡ f c
   pub others : (r c : ℕ) → c < cols → (r ≢ row) → x r c ≡ w r c
-
--- the same up to column i
-pub record RowTo {F : Type 0} (cols i row : ℕ) (f : ℕ → F) (w x : ℕ → ℕ → F) : Type 0 where
-  pub done : (c : ℕ) → c < i → x row c ≡ f c
-  pub todo : (c : ℕ) → i ≤ c → c < cols → x row c ≡ w row c
-  pub others : (r c : ℕ) → c < cols → (r ≢ row) → x r c ≡ w r c
-
--- from w to x the rows before row i became those of f
-pub record RowsTo {F : Type 0} (cols i : ℕ) (f w x : ℕ → ℕ → F) : Type 0 where
-  pub done : (r c : ℕ) → r < i → c < cols → x r c ≡ f r c
-  pub todo : (r c : ℕ) → i ≤ r → c < cols → x r c ≡ w r c
 
 -- what lies past the matrix is as it was
 abbrev pub Beyond : {F : Type 0} → ℕ → ℕ → (ℕ → ℕ → F) → (ℕ → ℕ → F) → Type 0

@@ -7,10 +7,6 @@ use Rattle.matrix.specs.declared.fault.MatrixFault.TheVariants.{Sides as BadSide
 use Rattle.matrix.specs.declared.fault.Sides.{Sides}
 use Rattle.matrix.specs.Grids.{grid, zeroed}
 
--- the sides of a square
-abbrev pub square_of : ℕ → Sides
-square_of n = record { rows = n; cols = n }
-
 -- a square of side 1 to 16 that the buffers have room for
 pub record Room (s : Sides) (m work out : ℕ) : Type 0 where
   pub square : s.cols ≡ s.rows

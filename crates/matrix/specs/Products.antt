@@ -5,15 +5,7 @@ use Rattle.algebra.specs.Matrices.{product}
 use Rattle.matrix.specs.declared.fault.MatrixFault.{MatrixFault}
 use Rattle.matrix.specs.declared.fault.MatrixFault.TheVariants.{Sides as BadSides, Singular}
 use Rattle.matrix.specs.declared.fault.Sides.{Sides}
-use Rattle.matrix.specs.declared.product.Shape.{Shape}
 use Rattle.matrix.specs.Grids.{grid}
-
--- the sides of the two factors of a product of one shape
-abbrev pub first_of : Shape → Sides
-first_of of = record { rows = of.rows; cols = of.inner }
-
-abbrev pub second_of : Shape → Sides
-second_of of = record { rows = of.inner; cols = of.cols }
 
 -- sides of 1 to 16, the inner ones alike, that the buffers have room for
 pub record Fitting (s t : Sides) (a b out : ℕ) : Type 0 where

@@ -8,14 +8,6 @@ pub record Exchanged {F : Type 0} (cols a b : ℕ) (w x : ℕ → ℕ → F) : T
   pub second : (c : ℕ) → c < cols → x b c ≡ w a c
   pub others : (r c : ℕ) → c < cols → (r ≢ a) → (r ≢ b) → x r c ≡ w r c
 
--- the same up to column i
-pub record ExchangedTo {F : Type 0} (cols i a b : ℕ) (w x : ℕ → ℕ → F) : Type 0 where
-  pub first : (c : ℕ) → c < i → x a c ≡ w b c
-  pub second : (c : ℕ) → c < i → x b c ≡ w a c
-  pub first_todo : (c : ℕ) → i ≤ c → c < cols → x a c ≡ w a c
-  pub second_todo : (c : ℕ) → i ≤ c → c < cols → x b c ≡ w b c
-  pub others : (r c : ℕ) → c < cols → (r ≢ a) → (r ≢ b) → x r c ≡ w r c
-
 -- from each row before row i but row k, its entry in column k times row k was taken
 pub record ClearTo {F : Type 0} (K : Ops F) (cols i k : ℕ) (w x : ℕ → ℕ → F) : Type 0 where
   pub done : (r c : ℕ) → r < i → c < cols → (r ≢ k) → x r c ≡ K.minus (w r c) (K.times (w r k) (w k c))

@@ -1,40 +1,49 @@
 // Elimination on a matrix with the identity at its right.
 ghost use Rattle.std.specs.Prelude.{◌≡◌, ◌+◌, ◌*◌, ◌<◌, ◌≤◌, length, ◌≢◌};
 ghost use Rattle.algebra.specs.Elimination.{Step, Eliminated};
-ghost use Rattle.matrix.specs.Grids.{grid, Area, Beyond};
+ghost use Rattle.matrix.specs.Grids.{grid, Beyond};
 
-use super::places::entry;
+use super::grid::Grid;
 use super::rows::{clear_column, pivot, scale_row, swap_rows};
+use super::shape::Shape;
 use field::Field;
 
-// Row p comes to k, is divided by its entry in column k, and clears that column in the other rows.
-fn reduce<F: Field>(m: &mut [F], rows: usize, cols: usize, k: usize, p: usize)
-    requires { (Area rows cols (length m.old)) × ((k < rows) × ((p < rows) × ((k < cols) × (grid F.Field.ops.zero cols m.old p k ≢ F.Field.ops.zero)))) }
-    ensures step { Step F.Field.ops rows cols k p (grid F.Field.ops.zero cols m.old) (grid F.Field.ops.zero cols m.new) }
-    ensures beyond { Beyond rows cols (grid F.Field.ops.zero cols m.old) (grid F.Field.ops.zero cols m.new) }
+// Row p comes up to k, is divided by its entry in column k, and clears that column in the other rows.
+fn reduce<F: Field>(m: &mut [F], shape: Shape, k: usize, p: usize)
+    requires room { shape.rows * shape.cols ≤ length m.old }
+    requires row { p < shape.rows }
+    requires up { k ≤ p }
+    requires col { k < shape.cols }
+    requires pivot { grid F.Field.ops.zero shape.cols m.old p k ≢ F.Field.ops.zero }
+    ensures step { Step F.Field.ops shape.rows shape.cols k p (grid F.Field.ops.zero shape.cols m.old) (grid F.Field.ops.zero shape.cols m.new) }
+    ensures beyond { Beyond shape.rows shape.cols (grid F.Field.ops.zero shape.cols m.old) (grid F.Field.ops.zero shape.cols m.new) }
 {
-    let Some(by) = entry(m, rows, cols, p, k).inverse() else {
-        unreachable()
+    let Some(by) = m[shape.place(p, k)].inverse() else {
+        unreachable!()
     };
-    if p != k {
-        swap_rows(m, rows, cols, k, p);
+    if k < p {
+        swap_rows(m, shape, k, p);
     }
-    scale_row(m, rows, cols, k, by);
-    clear_column(m, rows, cols, k);
+    scale_row(m, shape, k, by);
+    clear_column(m, shape, k);
 }
 
-// Brings the left half of n rows to the identity: whether each column had a pivot.
-pub(crate) fn eliminate<F: Field>(m: &mut [F], n: usize) -> bool
-    requires { (n ≤ 16) × (n * (n + n) ≤ length m.old) }
-    ensures done { Eliminated F.Field.ops n (grid F.Field.ops.zero (n + n) m.old) (grid F.Field.ops.zero (n + n) m.new) result }
-    ensures beyond { Beyond n (n + n) (grid F.Field.ops.zero (n + n) m.old) (grid F.Field.ops.zero (n + n) m.new) }
+// Brings the left half to the identity: whether each column had a pivot.
+pub(crate) fn eliminate<F: Field>(m: &mut [F], wide: Shape) -> bool
+    requires room { wide.rows * wide.cols ≤ length m.old }
+    requires twice { wide.cols ≡ wide.rows + wide.rows }
+    ensures done { Eliminated F.Field.ops wide.rows (grid F.Field.ops.zero wide.cols m.old) (grid F.Field.ops.zero wide.cols m.new) result }
+    ensures beyond { Beyond wide.rows wide.cols (grid F.Field.ops.zero wide.cols m.old) (grid F.Field.ops.zero wide.cols m.new) }
 {
-    let cols = n + n;
-    for k in 0..n {
-        match pivot(m, n, cols, k) {
-            None => return false,
-            Some(p) => reduce(m, n, cols, k, p),
-        }
+    for k in 0..wide.rows {
+        let grid = Grid {
+            entries: m,
+            shape: wide,
+        };
+        let Some(p) = pivot(&grid, k) else {
+            return false;
+        };
+        reduce(m, wide, k, p);
     }
     true
 }

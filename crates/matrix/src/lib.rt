@@ -2,14 +2,17 @@
 #![tactic(auto)]
 
 mod action;
+mod cells;
 mod elimination;
 mod fault;
+mod grid;
 mod inversion;
-mod places;
 mod product;
 mod rows;
+mod shape;
 
 pub use action::act_on_cells;
 pub use fault::{MatrixFault, Sides};
+pub use grid::Matrix;
 pub use inversion::invert;
 pub use product::multiply;

@@ -1,79 +1,45 @@
 // The product of two matrices.
-ghost use Rattle.std.specs.Prelude.{◌≡◌, ◌<◌, length, Ok};
+ghost use Rattle.std.specs.Prelude.{◌≡◌, ◌<◌};
 ghost use Rattle.algebra.specs.Matrices.{product};
-ghost use Rattle.matrix.specs.Grids.{grid, Area, RowIs};
-ghost use Rattle.matrix.specs.Products.{first_of, second_of, Fitting, Multiplied};
+ghost use Rattle.matrix.specs.Products.{Multiplied};
+ghost use Rattle.matrix.specs.Shapes.{entry_of};
 
 use super::fault::{MatrixFault, Sides};
-use super::places::{area, entry, is_side, put};
+use super::grid::{Grid, Matrix};
+use super::shape::Shape;
 use field::Field;
 
-// A row of a, of a matrix with `rows` rows and `inner` columns, times a column of b.
-fn row_times_column<F: Field>(a: &[F], b: &[F], of: Shape, row: usize, col: usize) -> F
-    requires { (Area of.rows of.inner (length a.now)) × ((Area of.inner of.cols (length b.now)) × ((row < of.rows) × (col < of.cols))) }
-    ensures { result ≡ product F.Field.ops of.inner (grid F.Field.ops.zero of.inner a.now) (grid F.Field.ops.zero of.cols b.now) row col }
+// A row of a times a column of b.
+fn row_times_column<F: Field>(a: &Grid<'_, F>, b: &Grid<'_, F>, row: usize, col: usize) -> F
+    requires alike { b.now.shape.rows ≡ a.now.shape.cols }
+    requires row { row < a.now.shape.rows }
+    requires col { col < b.now.shape.cols }
+    ensures { result ≡ product F.Field.ops a.now.shape.cols (entry_of F.Field.ops.zero a.now) (entry_of F.Field.ops.zero b.now) row col }
 {
     let mut total = F::zero();
-    for k in 0..of.inner {
-        let x = entry(a, of.rows, of.inner, row, k);
-        let y = entry(b, of.inner, of.cols, k, col);
-        total = total.add(x.mul(y));
+    for (k, x) in a.row(row).iter().enumerate() {
+        total = total.add(x.mul(b.entry(k, col)));
     }
     total
 }
 
-// The sides of the two factors of a product.
-#[derive(Clone, Copy)]
-pub(crate) struct Shape {
-    rows: usize,
-    inner: usize,
-    cols: usize,
-}
-
-fn multiply_row<F: Field>(a: &[F], b: &[F], out: &mut [F], of: Shape, row: usize)
-    requires { (Area of.rows of.inner (length a.now)) × ((Area of.inner of.cols (length b.now)) × ((Area of.rows of.cols (length out.old)) × (row < of.rows))) }
-    ensures { RowIs of.cols row (product F.Field.ops of.inner (grid F.Field.ops.zero of.inner a.now) (grid F.Field.ops.zero of.cols b.now) row) (grid F.Field.ops.zero of.cols out.old) (grid F.Field.ops.zero of.cols out.new) }
-{
-    for c in 0..of.cols {
-        let x = row_times_column(a, b, of, row, c);
-        put(out, of.rows, of.cols, row, c, x);
-    }
-}
-
-// The same where the sides are right and the buffers have room.
-fn multiply_fitting<F: Field>(a: &[F], b: &[F], out: &mut [F], of: Shape)
-    requires { Fitting (first_of of) (second_of of) (length a.now) (length b.now) (length out.old) }
-    ensures { Multiplied F.Field.ops (first_of of) (second_of of) a.now b.now out.old out.new (Ok tt) }
-{
-    for r in 0..of.rows {
-        multiply_row(a, b, out, of, r);
-    }
-}
-
 // a times b into out.
 pub fn multiply<F: Field>(
-    a: &[F],
-    a_sides: Sides,
-    b: &[F],
-    b_sides: Sides,
+    a: Matrix<'_, F>,
+    b: Matrix<'_, F>,
     out: &mut [F],
 ) -> Result<(), MatrixFault>
-    ensures { Multiplied F.Field.ops a_sides b_sides a.now b.now out.old out.new result }
+    ensures { Multiplied F.Field.ops a.entry.sides b.entry.sides a.entry.entries.now b.entry.entries.now out.old out.new result }
 {
-    let of = Shape {
-        rows: a_sides.rows,
-        inner: a_sides.cols,
-        cols: b_sides.cols,
-    };
-    if !is_side(of.rows) || !is_side(of.inner) || !is_side(of.cols) || b_sides.rows != of.inner {
+    let first = Grid::try_from(a)?;
+    let second = Grid::try_from(b)?;
+    let of = Shape::try_from(Sides {
+        rows: a.sides.rows,
+        cols: b.sides.cols,
+    })?;
+    if b.sides.rows != a.sides.cols || out.len() < of.area() {
         return Err(MatrixFault::Sides);
     }
-    if a.len() < area(of.rows, of.inner)
-        || b.len() < area(of.inner, of.cols)
-        || out.len() < area(of.rows, of.cols)
-    {
-        return Err(MatrixFault::Sides);
-    }
-    multiply_fitting(a, b, out, of);
+    of.fill(out, |r, c| row_times_column(&first, &second, r, c));
     Ok(())
 }

@@ -1,70 +1,82 @@
 // Steps of elimination on whole rows, and the search for a pivot.
-ghost use Rattle.std.specs.Prelude.{◌≡◌, ◌<◌, length, ◌≢◌};
-ghost use Rattle.matrix.specs.Grids.{grid, Area, RowIs};
+ghost use Rattle.std.specs.Prelude.{◌≡◌, ◌*◌, ◌<◌, ◌≤◌, length, ◌≢◌};
+ghost use Rattle.matrix.specs.Grids.{grid, RowIs};
 ghost use Rattle.matrix.specs.Rows.{Exchanged, ClearTo, Pivot};
+ghost use Rattle.matrix.specs.Shapes.{entry_of};
 
-use super::places::{entry, put};
+use super::grid::Grid;
+use super::shape::Shape;
 use field::Field;
 
-pub(crate) fn swap_rows<F: Field>(m: &mut [F], rows: usize, cols: usize, a: usize, b: usize)
-    requires { (Area rows cols (length m.old)) × ((a < rows) × ((b < rows) × (a ≢ b))) }
-    ensures { Exchanged cols a b (grid F.Field.ops.zero cols m.old) (grid F.Field.ops.zero cols m.new) }
+// Stays: each step takes the lent slice beside its shape; a struct that held both would have each step ensure that it still holds this slice and this shape, two facts for the one on its room.
+// Row a and a row b below it change places.
+pub(crate) fn swap_rows<F: Field>(m: &mut [F], shape: Shape, a: usize, b: usize)
+    requires room { shape.rows * shape.cols ≤ length m.old }
+    requires below { a < b }
+    requires within { b < shape.rows }
+    ensures { Exchanged shape.cols a b (grid F.Field.ops.zero shape.cols m.old) (grid F.Field.ops.zero shape.cols m.new) }
 {
-    for c in 0..cols {
-        let x = entry(m, rows, cols, a, c);
-        let y = entry(m, rows, cols, b, c);
-        put(m, rows, cols, a, c, y);
-        put(m, rows, cols, b, c, x);
-    }
+    let start = shape.place(a, 0);
+    let (upper, lower) = m.split_at_mut(shape.place(b, 0));
+    upper[start..start + shape.cols].swap_with_slice(&mut lower[..shape.cols]);
 }
 
 // Each entry of a row times an element.
-pub(crate) fn scale_row<F: Field>(m: &mut [F], rows: usize, cols: usize, row: usize, by: F)
-    requires { (Area rows cols (length m.old)) × (row < rows) }
-    ensures { RowIs cols row (λ c. F.Field.ops.times by (grid F.Field.ops.zero cols m.old row c)) (grid F.Field.ops.zero cols m.old) (grid F.Field.ops.zero cols m.new) }
+pub(crate) fn scale_row<F: Field>(m: &mut [F], shape: Shape, row: usize, by: F)
+    requires room { shape.rows * shape.cols ≤ length m.old }
+    requires within { row < shape.rows }
+    ensures { RowIs shape.cols row (λ c. F.Field.ops.times by (grid F.Field.ops.zero shape.cols m.old row c)) (grid F.Field.ops.zero shape.cols m.old) (grid F.Field.ops.zero shape.cols m.new) }
 {
-    for c in 0..cols {
-        let x = entry(m, rows, cols, row, c);
-        put(m, rows, cols, row, c, by.mul(x));
+    let start = shape.place(row, 0);
+    for x in m[start..start + shape.cols].iter_mut() {
+        *x = by.mul(*x);
     }
 }
 
-// Takes a row, times an element, from another.
-fn subtract_row<F: Field>(m: &mut [F], rows: usize, cols: usize, row: usize, from: usize, by: F)
-    requires { (Area rows cols (length m.old)) × ((row < rows) × ((from < rows) × (from ≢ row))) }
-    ensures { RowIs cols row (λ c. F.Field.ops.minus (grid F.Field.ops.zero cols m.old row c) (F.Field.ops.times by (grid F.Field.ops.zero cols m.old from c))) (grid F.Field.ops.zero cols m.old) (grid F.Field.ops.zero cols m.new) }
+// Takes row k, which has a one in column k, from another row, times the entry there in column k.
+fn clear_entry<F: Field>(m: &mut [F], shape: Shape, row: usize, k: usize)
+    requires room { shape.rows * shape.cols ≤ length m.old }
+    requires within { row < shape.rows }
+    requires lead { k < shape.rows }
+    requires col { k < shape.cols }
+    requires apart { k ≢ row }
+    ensures { RowIs shape.cols row (λ c. F.Field.ops.minus (grid F.Field.ops.zero shape.cols m.old row c) (F.Field.ops.times (grid F.Field.ops.zero shape.cols m.old row k) (grid F.Field.ops.zero shape.cols m.old k c))) (grid F.Field.ops.zero shape.cols m.old) (grid F.Field.ops.zero shape.cols m.new) }
 {
-    for c in 0..cols {
-        let x = entry(m, rows, cols, row, c);
-        let y = entry(m, rows, cols, from, c);
-        put(m, rows, cols, row, c, x.sub(by.mul(y)));
+    let by = m[shape.place(row, k)];
+    // Stays: both rows lie in one slice; parts cut from it take a case for either order of the rows, and are no plainer.
+    for c in 0..shape.cols {
+        let at = shape.place(row, c);
+        let lead = shape.place(k, c);
+        m[at] = m[at].sub(by.mul(m[lead]));
     }
 }
 
 // Clears column k in each row but row k, which has a one there.
-pub(crate) fn clear_column<F: Field>(m: &mut [F], rows: usize, cols: usize, k: usize)
-    requires { (Area rows cols (length m.old)) × ((k < rows) × (k < cols)) }
-    ensures { ClearTo F.Field.ops cols rows k (grid F.Field.ops.zero cols m.old) (grid F.Field.ops.zero cols m.new) }
+pub(crate) fn clear_column<F: Field>(m: &mut [F], shape: Shape, k: usize)
+    requires room { shape.rows * shape.cols ≤ length m.old }
+    requires row { k < shape.rows }
+    requires col { k < shape.cols }
+    ensures { ClearTo F.Field.ops shape.cols shape.rows k (grid F.Field.ops.zero shape.cols m.old) (grid F.Field.ops.zero shape.cols m.new) }
 {
-    for r in 0..rows {
+    for r in 0..shape.rows {
         if r != k {
-            let by = entry(m, rows, cols, r, k);
-            subtract_row(m, rows, cols, r, k, by);
+            clear_entry(m, shape, r, k);
         }
     }
 }
 
 // The first row from k on whose entry in column k can be a pivot.
-pub(crate) fn pivot<F: Field>(m: &[F], rows: usize, cols: usize, k: usize) -> Option<usize>
-    requires { (Area rows cols (length m.now)) × (k < cols) }
-    ensures { Pivot F.Field.ops.zero rows k (grid F.Field.ops.zero cols m.now) result }
+pub(crate) fn pivot<F: Field>(m: &Grid<'_, F>, k: usize) -> Option<usize>
+    requires { k < m.now.shape.cols }
+    ensures { Pivot F.Field.ops.zero m.now.shape.rows k (entry_of F.Field.ops.zero m.now) result }
 {
     let mut r = k;
+    // Stays: the project asks for a labelled loop here that is left with the row found.
     let found = 'rows: loop {
-        if r >= rows {
+        if r >= m.shape.rows {
             break 'rows None;
         }
-        if !entry(m, rows, cols, r, k).is_zero() {
+        if !m.entry(r, k).is_zero() {
             break 'rows Some(r);
         }
         r += 1;

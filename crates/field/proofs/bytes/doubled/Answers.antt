@@ -1,5 +1,5 @@
 use Rattle.std.proofs.Common.{◌≡◌, ◌*◌, ◌<◌, cond, sym, ap, ◌∙◌, arith, lit<, rules, le-ltb, lt-ltb}
-use lib.Bits.{bit_xor}
+use Rattle.std.specs.Int.Bits.{bit_xor}
 use Rattle.gfmath.specs.Polynomials.{product}
 use Rattle.gfmath.proofs.Laws.{product_lt, product_two}
 use Rattle.field.proofs.bytes.doubled.Goals as goal

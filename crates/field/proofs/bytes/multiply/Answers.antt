@@ -1,12 +1,9 @@
 use Rattle.std.proofs.Common.{◌≡◌, ℕ, suc, ◌+◌, ◌-◌, ◌*◌, ◌/◌, ◌^◌, ◌<◌, sym, ap, ◌∙◌, subst, ap₂, pow-suc, arith}
-use lib.Bits.{bit_xor, xor_assoc, xor_zero_l, xor_zero_r}
+use Rattle.std.specs.Int.Bits.{bit_xor, xor_assoc, xor_zero_r}
 use Rattle.gfmath.specs.Polynomials.{product, LeftBy, carryless}
 use Rattle.gfmath.proofs.Linear.{second_zero}
 use Rattle.gfmath.proofs.Laws.{product_step, left_by}
 use Rattle.field.proofs.bytes.multiply.Goals as goal
-
-pub loop-i-init : goal.loop-i-init
-loop-i-init c = (xor_zero_l (product c.args.a c.args.b), omega arith, omega arith, omega arith)
 
 -- half of a number below the next power of two
 half : (n i : ℕ) → i < 8 → n < 2 ^ (8 - i) → n / 2 < 2 ^ (8 - (i + 1))

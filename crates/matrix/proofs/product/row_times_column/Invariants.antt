@@ -6,4 +6,4 @@ use Rattle.matrix.proofs.product.row_times_column.Given as goal
 abbrev pub invariant-loop-k : goal.invariant-loop-k
 invariant-loop-k g l =
     let K = g.F.Field.ops in
-    l.total ≡ product K l.k (grid K.zero l.of.inner l.a) (grid K.zero l.of.cols l.b) l.row l.col
+    l.total ≡ product K l.k (grid K.zero l.a.shape.cols l.a.entries.now) (grid K.zero l.b.shape.cols l.b.entries.now) l.fn.row l.col

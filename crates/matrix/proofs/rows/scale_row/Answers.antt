@@ -1,9 +1,12 @@
-use Rattle.std.proofs.Common.{ap, ◌∙◌, arith}
-use Rattle.matrix.proofs.Grids.{row_more}
+use Rattle.std.proofs.Common.{◌+◌, ◌-◌, arith}
+use Rattle.matrix.proofs.Parts.{row_fits, row_changed}
 use Rattle.matrix.proofs.rows.scale_row.Goals as goal
 
-pub loop-c-preserved : goal.loop-c-preserved
-loop-c-preserved g c =
-    let t = c.loop-c.invariant in
-    row_more c.args.cols c.args.row _ _ c.loop-c.c _ _ _ (omega arith) t c.put.ensures
-    (c.mul.ensures ∙ ap (g.F.Field.ops.times c.args.by) (c.entry-x.ensures ∙ t.todo c.loop-c.c (omega arith) (omega arith)))
+pub returns : goal.returns
+returns g c =
+    let K = g.F.Field.ops in
+    let cols = c.args.shape.cols in
+    let start = c.place-start.result in
+    let fits = row_fits cols c.args.row c.args.shape.rows c.requires.within in
+    row_changed K.zero _ _ start (start + cols - start) c.args.m.now c.loop-x.x-items (omega arith) (omega arith) c.loop-x.auto.x-items (omega arith) (K.times c.args.by)
+    (λ j l. c.loop-x.invariant.0 j (omega arith))

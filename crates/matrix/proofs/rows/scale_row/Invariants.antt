@@ -1,8 +1,8 @@
-use Rattle.matrix.specs.Grids.{grid, RowTo}
+use Rattle.std.proofs.Common.{◌≡◌, ℕ, ◌<◌, ◌≤◌, get_or}
 use Rattle.matrix.proofs.rows.scale_row.Given as goal
 
-abbrev pub invariant-loop-c : goal.invariant-loop-c
-invariant-loop-c g l =
+abbrev pub invariant-loop-x : goal.invariant-loop-x
+invariant-loop-x g l =
     let K = g.F.Field.ops in
-    let w = grid K.zero l.cols l.initial.m in
-    RowTo l.cols l.c l.row (λ c. K.times l.by (w l.row c)) w (grid K.zero l.cols l.m)
+    ((c : ℕ) → c < l.x-index → get_or l.x-items c K.zero ≡ K.times l.by (get_or l.initial.x-items c K.zero))
+    × ((c : ℕ) → l.x-index ≤ c → get_or l.x-items c K.zero ≡ get_or l.initial.x-items c K.zero)

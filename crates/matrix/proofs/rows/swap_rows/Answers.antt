@@ -1,8 +1,12 @@
-use Rattle.std.proofs.Common.{arith}
-use Rattle.matrix.proofs.RowSteps.{exchange_more}
+use Rattle.std.proofs.Common.{◌+◌, ◌-◌, arith}
+use Rattle.matrix.proofs.Parts.{row_fits, exchanged}
 use Rattle.matrix.proofs.rows.swap_rows.Goals as goal
 
-pub loop-c-preserved : goal.loop-c-preserved
-loop-c-preserved g c =
-    exchange_more c.args.cols c.args.a c.args.b c.requires.1.1.1 _ c.loop-c.c _ _ _ _ _ (omega arith) c.loop-c.invariant
-    c.entry-x.ensures c.entry-y.ensures c.put.ensures c.put-in-loop-c.ensures
+pub returns : goal.returns
+returns g c =
+    let parts = c.split_at_mut-upper.ensures in
+    let swapped = c.swap_with_slice.ensures in
+    let s = c.place-start.result in
+    let f = row_fits c.args.shape.cols c.args.b c.args.shape.rows c.requires.within in
+    exchanged g.F.Field.ops.zero c.args.shape.cols c.args.a c.args.b s c.place.result (s + c.args.shape.cols - s) c.args.m.now _ _ _ _
+    (omega arith) (omega arith) (omega arith) c.requires.below (omega arith) parts.front parts.back swapped.after swapped.other_after

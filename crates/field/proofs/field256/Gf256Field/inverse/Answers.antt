@@ -14,9 +14,6 @@ powers_none a = unfold powers in refl
 inverse_is : (a : ℕ) → inverse_of a ≡ powers 7 (product a a)
 inverse_is a = unfold inverse_of in refl
 
-pub returns-then-self-eq0 : goal.returns-then-self-eq0
-returns-then-self-eq0 c = same_value _ _ c.if-self-eq0.true
-
 pub loop-i-init : goal.loop-i-init
 loop-i-init c = (
   product_comm 1 (powers 7 c.multiply-power.result) (lit< tt) (powers_lt 7 _ (omega arith)) ∙ product_one _ (powers_lt 7 _ (omega arith)),

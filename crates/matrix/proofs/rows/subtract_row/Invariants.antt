@@ -1,8 +1,0 @@
-use Rattle.matrix.specs.Grids.{grid, RowTo}
-use Rattle.matrix.proofs.rows.subtract_row.Given as goal
-
-abbrev pub invariant-loop-c : goal.invariant-loop-c
-invariant-loop-c g l =
-    let K = g.F.Field.ops in
-    let w = grid K.zero l.cols l.initial.m in
-    RowTo l.cols l.c l.row (λ c. K.minus (w l.row c) (K.times l.by (w l.from c))) w (grid K.zero l.cols l.m)
