@@ -51,7 +51,7 @@ impl Chosen<'_> {
     fn fill_missing<F: Field>(self, inverse: &[F], row: &mut [u8])
         requires room { RowRoom self.schema row.old }
         requires matrix { self.schema.data_units * self.schema.data_units ≤ length inverse.now }
-        ensures { Filled self.entry.schema.data_units self.entry.schema.cell_size (flag self.entry.there.now) (λ c v. mixed F.Field.ops self.entry.schema.data_units (grid F.Field.ops.zero self.entry.schema.data_units inverse.now c) (λ k. v (slice_index self.entry.cells.now k))) (byte_at self.entry.schema.cell_size row.old) (byte_at self.entry.schema.cell_size row.new) }
+        ensures { let s = self.entry.schema in Filled s.data_units s.cell_size (flag self.entry.there.now) (λ c v. mixed F.Field.ops s.data_units (grid F.Field.ops.zero s.data_units inverse.now c) (λ k. v (slice_index self.entry.cells.now k))) (byte_at s.cell_size row.old) (byte_at s.cell_size row.new) }
     {
         let Chosen {
             schema,
@@ -74,7 +74,7 @@ impl Chosen<'_> {
     fn recover_by<C: Code>(self, row: &mut [u8], space: &mut Workspace<C::F>)
         requires code { C.Code.permits self.schema.data_units self.schema.parity_units }
         requires room { RowRoom self.schema row.old }
-        ensures { MadeAgain self.entry.schema.data_units (units self.entry.schema) self.entry.schema.cell_size (λ r v. mixed C.F.Field.ops self.entry.schema.data_units (C.Code.generator self.entry.schema.data_units r) v) (flag self.entry.there.now) (byte_at self.entry.schema.cell_size row.old) (byte_at self.entry.schema.cell_size row.new) }
+        ensures { let s = self.entry.schema in MadeAgain s.data_units (units s) s.cell_size (λ r v. mixed C.F.Field.ops s.data_units (C.Code.generator s.data_units r) v) (flag self.entry.there.now) (byte_at s.cell_size row.old) (byte_at s.cell_size row.new) }
     {
         let d = self.schema.data_units;
         let Ok(()) = C::matrix(d, self.schema.parity_units, &mut space.generator) else {
