@@ -8,6 +8,7 @@ use super::code::{Code, is_permitted};
 use field::Field;
 use field::gf256::Gf256;
 
+#[derive(Clone, Copy, PartialEq, Eq, Debug)]
 pub struct Rs;
 
 impl Code for Rs {

@@ -9,6 +9,7 @@ use super::code::{Code, is_permitted};
 use field::Field;
 use field::gf2::Gf2;
 
+#[derive(Clone, Copy, PartialEq, Eq, Debug)]
 pub struct Xor;
 
 impl Code for Xor {

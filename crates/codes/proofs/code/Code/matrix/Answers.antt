@@ -22,10 +22,10 @@ returns g c =
     let x = c.loop-i.x-items in
     let rest = drop ((d + p) * d) c.args.out.now in
     let ok = c.if-not-permits.ensures.0 refl in
-    let h = c.loop-i.auto.x-items ∙ length-take-le ((d + p) * d) c.args.out.now c.if-out-entries.false in
+    let h = c.loop-i.auto.x-items ∙ length-take-le ((d + p) * d) c.args.out.now (omega arith) in
     let entries = laid O d (d + p) m x rest h (λ j l. c.loop-i.invariant j (omega arith)) in (
       ok,
-      c.if-out-entries.false,
+      omega arith,
       entries,
       invertible_same g.met.Self.F.Field.field d (d + p) m (grid O d (x ++ rest)) entries (g.met.Self.Code.rows d p ok),
       drop-append-drop ((d + p) * d) c.args.out.now x ((d + p) * d) (omega arith) h,
