@@ -1,22 +1,50 @@
 // The codes that parity can be made by.
-ghost use Rattle.std.specs.Prelude.{◌≡◌};
+ghost use Rattle.std.specs.Prelude.{◌≡◌, Some};
+ghost use Rattle.std.specs.Option.{ok_or};
+ghost use Rattle.policy.specs.declared.fault.PolicyFault.TheVariants.{Unknown};
 ghost use Rattle.policy.specs.Codecs.{codec_of};
 
-#[derive(Clone, Copy)]
+use crate::fault::PolicyFault;
+use std::fmt;
+use std::str::FromStr;
+
+#[derive(Clone, Copy, PartialEq, Eq, Debug)]
 pub enum Codec {
     Rs,
     RsLegacy,
     Xor,
 }
 
-// The codec of a name as a schema spells it.
-pub(crate) fn codec_by_name(name: &str) -> Option<Codec>
-    ensures { result ≡ codec_of name.now }
-{
-    match name {
-        "rs" => Some(Codec::Rs),
-        "rs-legacy" => Some(Codec::RsLegacy),
-        "xor" => Some(Codec::Xor),
-        _ => None,
+impl Codec {
+    // Its name as a schema spells it.
+    pub fn name(self) -> &'static str
+        ensures { codec_of result.now ≡ Some self }
+    {
+        match self {
+            Codec::Rs => "rs",
+            Codec::RsLegacy => "rs-legacy",
+            Codec::Xor => "xor",
+        }
+    }
+}
+
+impl fmt::Display for Codec {
+    fn fmt<W: fmt::Write>(&self, f: &mut fmt::Formatter<W>) -> fmt::Result {
+        f.write_str(self.name())
+    }
+}
+
+impl FromStr for Codec {
+    type Err = PolicyFault;
+
+    ghost from_str_gives = { λ name r. r ≡ ok_or (codec_of name) Unknown };
+
+    fn from_str(name: &str) -> Result<Codec, PolicyFault> {
+        match name {
+            "rs" => Ok(Codec::Rs),
+            "rs-legacy" => Ok(Codec::RsLegacy),
+            "xor" => Ok(Codec::Xor),
+            _ => Err(PolicyFault::Unknown),
+        }
     }
 }

@@ -3,13 +3,13 @@ ghost use Rattle.std.specs.Prelude.{◌≡◌};
 ghost use Rattle.policy.specs.Policies.{policy_of};
 ghost use Rattle.policy.specs.Resolved.{plain_answer, checked, listed, resolved, named};
 
-use crate::codec::{Codec, codec_by_name};
+use crate::codec::Codec;
 use crate::fault::PolicyFault;
 use crate::schema::EcSchema;
 use crate::table::{policy_by_id, policy_id};
 
 // The schema of a policy message, where it carries one.
-#[derive(Clone, Copy)]
+#[derive(Clone, Copy, PartialEq, Eq, Debug)]
 pub struct SentSchema<'a> {
     pub codec_name: &'a str,
     pub data_units: u32,
@@ -27,10 +27,10 @@ impl EcSchema {
         ensures { plain_answer result ≡ checked codec data_units parity_units cell_size }
     {
         // Subtracted, since the sum of what was sent could wrap.
-        if data_units < 1 || data_units > 15 || parity_units < 1 || parity_units > 16 - data_units {
-            return Err(PolicyFault::Limit);
-        }
-        if cell_size < 1 || cell_size > 1_048_576 {
+        if !(1..=15).contains(&data_units)
+            || !(1..=16 - data_units).contains(&parity_units)
+            || !(1..=1_048_576).contains(&cell_size)
+        {
             return Err(PolicyFault::Limit);
         }
         match codec {
@@ -49,20 +49,15 @@ impl EcSchema {
 pub fn schema_by_id(id: u32) -> Result<EcSchema, PolicyFault>
     ensures { plain_answer result ≡ listed (policy_of id) }
 {
-    match policy_by_id(id) {
-        Some(p) => EcSchema::new(p.codec, p.data_units, p.parity_units, p.cell_size),
-        None => Err(PolicyFault::Unknown),
-    }
+    let p = policy_by_id(id).ok_or(PolicyFault::Unknown)?;
+    EcSchema::new(p.codec, p.data_units, p.parity_units, p.cell_size)
 }
 
 // The scheme of a policy that is named as text.
 pub fn schema_by_name(name: &str) -> Result<EcSchema, PolicyFault>
     ensures { plain_answer result ≡ named name.now }
 {
-    match policy_id(name) {
-        Some(id) => schema_by_id(id),
-        None => Err(PolicyFault::Unknown),
-    }
+    schema_by_id(policy_id(name).ok_or(PolicyFault::Unknown)?)
 }
 
 // The scheme of a policy message: a schema sent along wins over the id. A cell size that is absent comes as 0.
@@ -76,15 +71,10 @@ pub fn resolve_ec_policy(
     let Some(sent) = schema else {
         return schema_by_id(id);
     };
-    match codec_by_name(sent.codec_name) {
-        Some(codec) => {
-            EcSchema::new(
-                codec,
-                sent.data_units as usize,
-                sent.parity_units as usize,
-                cell_size as usize,
-            )
-        }
-        None => Err(PolicyFault::Unknown),
-    }
+    EcSchema::new(
+        sent.codec_name.parse()?,
+        sent.data_units as usize,
+        sent.parity_units as usize,
+        cell_size as usize,
+    )
 }

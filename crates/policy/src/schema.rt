@@ -4,7 +4,7 @@ ghost use Rattle.policy.specs.declared.codec.Codec.TheVariants.{Xor};
 
 use crate::codec::Codec;
 
-#[derive(Clone, Copy)]
+#[derive(Clone, Copy, PartialEq, Eq, Debug)]
 pub struct EcSchema {
     pub codec: Codec,
     pub data_units: usize,
@@ -16,4 +16,13 @@ pub struct EcSchema {
     ghost some_bytes: { 1 ≤ cell_size },
     ghost small: { cell_size ≤ 1048576 },
     ghost xor_alone: { codec ≡ Xor → parity_units ≡ 1 },
+}
+
+impl EcSchema {
+    // How many cells a row has, data and parity.
+    pub fn units(self) -> usize
+        ensures { result ≡ self.data_units + self.parity_units }
+    {
+        self.data_units + self.parity_units
+    }
 }

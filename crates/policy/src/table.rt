@@ -1,10 +1,12 @@
 // Hadoop's built-in policies, by id and by name.
-ghost use Rattle.std.specs.Prelude.{◌≡◌};
+ghost use Rattle.std.specs.Prelude.{◌≡◌, ◌==◌};
+ghost use Rattle.std.specs.List.{find};
+ghost use Rattle.policy.specs.declared.table.Policy.{Policy};
 ghost use Rattle.policy.specs.Policies.{policy_of, id_of};
 
 use crate::codec::Codec;
 
-#[derive(Clone, Copy)]
+#[derive(Clone, Copy, PartialEq, Eq, Debug)]
 pub struct Policy {
     pub id: u32,
     pub codec: Codec,
@@ -51,14 +53,18 @@ const POLICIES: [Policy; 5] = [
     },
 ];
 
+// The row of an id.
+fn row_by_id(rows: &[Policy], id: u32) -> Option<Policy>
+    ensures { result ≡ find (λ (row : Policy). id == row.id) rows.now }
+{
+    rows.iter().copied().find(|row| id == row.id)
+}
+
 // The policy of an id; none where the id is not one of the five.
 pub fn policy_by_id(id: u32) -> Option<Policy>
     ensures { result ≡ policy_of id }
 {
-    if id < 1 || id > 5 {
-        return None;
-    }
-    Some(POLICIES[id as usize - 1])
+    row_by_id(&POLICIES, id)
 }
 
 // The id of a policy that is named as text.
