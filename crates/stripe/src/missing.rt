@@ -98,7 +98,7 @@ pub fn recover(schema: EcSchema, there: &[bool; 16], row: &mut [u8]) -> Result<u
     if row.len() < row_bytes(schema) {
         return Err(StripeFault::Short);
     }
-    let lowest = lowest(there, schema.data_units + schema.parity_units);
+    let lowest = lowest(there, schema.units());
     let cells = lowest.len();
     if cells < schema.data_units {
         return Err(StripeFault::TooFew { cells });

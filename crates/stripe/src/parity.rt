@@ -35,7 +35,7 @@ fn encode_by<C: Code>(
         return Err(StripeFault::Short);
     }
     let d = schema.data_units;
-    let n = d + schema.parity_units;
+    let n = schema.units();
     let s = schema.cell_size;
     let Ok(()) = C::matrix(d, schema.parity_units, generator) else {
         unreachable!()

@@ -10,7 +10,7 @@ use policy::EcSchema;
 pub(crate) fn row_bytes(schema: EcSchema) -> usize
     ensures { result ≡ units schema * schema.cell_size }
 {
-    (schema.data_units + schema.parity_units) * schema.cell_size
+    schema.units() * schema.cell_size
 }
 
 // How many of the first n cells are missing.

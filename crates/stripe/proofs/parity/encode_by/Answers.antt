@@ -1,4 +1,4 @@
-use Rattle.std.proofs.Common.{ℕ, ◌/◌, ◌<◌, length, sym, subst, arith}
+use Rattle.std.proofs.Common.{◌≡◌, ℕ, ◌*◌, ◌/◌, ◌<◌, ◌≤◌, length, sym, subst, arith}
 use Rattle.algebra.specs.Matrices.{mixed}
 use Rattle.matrix.specs.Grids.{grid}
 use Rattle.stripe.specs.Coded.{byte_at, units}
@@ -6,15 +6,19 @@ use Rattle.stripe.proofs.Acting.{acts, whole_cell}
 use Rattle.stripe.proofs.Rows.{mixed_rows, parity_same, parity_more}
 use Rattle.stripe.proofs.parity.encode_by.Goals as goal
 
+same_area : (n m d len : ℕ) → m ≡ n → n * d ≤ len → m * d ≤ len
+same_area n m d len e = subst (λ (k : ℕ). k * d ≤ len) (sym e)
+
 pub unreachable-requires-in_default-act_on_cells : goal.unreachable-requires-in_default-act_on_cells
 unreachable-requires-in_default-act_on_cells g c =
     let s = c.args.schema.cell_size in
     let n = units c.args.schema in
     let cells = c.cell_numbers-cells.result in
+    let fits = same_area n c.units-n.result c.args.schema.data_units (length c.args.generator.now) c.units-n.ensures c.in-Ok.ensures.1 in
     acts g.C.F.Field.ops c.matrix.new.out _ c.loop-r.r cells s c.loop-r.r c.loop-r.row c.act_on_cells.new.cells c.in_default-act_on_cells.field-0 c.in_default-act_on_cells.ensures (record {
       rows = (omega arith, omega arith);
       cols = (omega arith, omega arith);
-      matrix = omega (arith, c.in-Ok.ensures.1);
+      matrix = omega arith;
       row_within = omega arith;
       one_each = omega arith;
       some_bytes = omega arith;
