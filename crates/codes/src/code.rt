@@ -8,6 +8,7 @@ use super::fault::GeneratorFault;
 use field::Field;
 
 // Whether a row may have so many data and parity units.
+// Stays: the calls of a code take these two numbers, and what callers give is kept.
 pub(crate) fn is_permitted(data_units: usize, parity_units: usize) -> bool
     ensures { Decides result (Permitted data_units parity_units) }
 {

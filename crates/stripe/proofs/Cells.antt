@@ -1,7 +1,7 @@
 -- The cells of a row that are there, counted and listed. Assumes nothing.
 use Rattle.std.proofs.Common.{◌≡◌, ℕ, zero, suc, ◌+◌, ◌-◌, ◌<◌, ◌≤◌, Bool, true, false, cond, ◌⊎◌, List, [], ◌∷◌, ◌++◌, length, take, not, count_by, get_or, sym, refl, ap, ◌∙◌, subst, ap₂, inl, inr, ⊎_elim, le_of_suc-le-suc, not-suc-le-zero, add-zero, eq-or-lt_of_le, add-one, arith, length-append}
 use Rattle.std.proofs.lemmas.List.Sums.{count_by_more_no, count_by_more_yes}
-use Rattle.std.proofs.lemmas.List.{get_or_append_left, get_or-append_right}
+use Rattle.std.proofs.lemmas.List.{length-take, length-take-le, get_or-take, get_or_append_left, get_or-append_right}
 use Rattle.algebra.specs.Sums.{count}
 use Rattle.algebra.specs.Codes.{Choice}
 use Rattle.stripe.specs.There.{flag, there_below, lowest_there}
@@ -25,6 +25,15 @@ below_length there (suc n) = length-append (there_below there n) (cond (there n)
     by : (b : Bool) → length (cond b (n ∷ []) []) ≡ cond b 1 0
     by true = refl
     by false = refl
+
+-- flags that agree below n list the same cells
+pub below_same : (f g : ℕ → Bool) (n : ℕ) → ((k : ℕ) → k < n → f k ≡ g k) → there_below f n ≡ there_below g n
+below_same f g zero h = refl
+below_same f g (suc n) h = ap₂ (λ xs b. xs ++ cond b (n ∷ []) []) (below_same f g n (λ k l. h k (omega arith))) (h n (omega arith))
+
+pub lowest_of : (flags : List Bool) (n : ℕ) → n ≤ length flags → there_below (flag (take n flags)) (length (take n flags)) ≡ there_below (flag flags) n
+lowest_of flags n h =
+    ap (there_below (flag (take n flags))) (length-take-le n flags h) ∙ below_same (flag (take n flags)) (flag flags) n (λ k l. get_or-take n flags k false l)
 
 -- each of the first n cells is missing or there
 pub missing_count : (flags : List Bool) (n : ℕ) → n ≤ length flags → count_by not (take n flags) + count (flag flags) n ≡ n
@@ -131,13 +140,24 @@ choice there d n h =
     let q = listing there n in
     record { below = λ k l. (q.each k (omega arith)).0; apart = λ i k l j e. let r = q.rising i k l (omega arith) in omega arith }
 
--- what a list of the lowest cells has, of which there are at least d
-module _ (there : ℕ → Bool) (d n : ℕ) (cells : List ℕ) (low : cells ≡ there_below there n) (enough : d ≤ length cells) where
+-- what the lowest d of the cells that are there have
+module _ (there : ℕ → Bool) (d n : ℕ) (cells : List ℕ) (low : cells ≡ take d (there_below there n)) (enough : length cells ≡ d) where
   counted : d ≤ count there n
-  counted = let e = ap length low ∙ below_length there n in omega arith
+  counted =
+      let e = ap length low ∙ length-take d (there_below there n) in
+      let f = below_length there n in
+      omega arith
 
-  pub chosen_choice : Choice d n (λ k. get_or cells k 0)
-  chosen_choice = subst (λ xs. Choice d n (λ k. get_or xs k 0)) (sym low) (choice there d n counted)
+  pub chosen_lowest : (k : ℕ) → k < d → get_or cells k 0 ≡ lowest_there there n k
+  chosen_lowest k l = ap (λ xs. get_or xs k 0) low ∙ get_or-take d (there_below there n) k 0 l
 
   pub chosen_there : (k : ℕ) → k < d → there (get_or cells k 0) ≡ true
-  chosen_there k l = ap (λ xs. there (get_or xs k 0)) low ∙ ((listing there n).each k (let m = counted in omega arith)).1
+  chosen_there k l = ap there (chosen_lowest k l) ∙ ((listing there n).each k (let m = counted in omega arith)).1
+
+  pub chosen_choice : Choice d n (λ k. get_or cells k 0)
+  chosen_choice =
+      let q = choice there d n counted in
+      record {
+        below = λ k l. let e = chosen_lowest k l in let b = q.below k l in omega arith;
+        apart = λ i k l j e. q.apart i k l j (sym (chosen_lowest i (omega arith)) ∙ e ∙ chosen_lowest k j);
+      }

@@ -12,7 +12,7 @@ pub record ParityIs (d n s : ℕ) (f : ℕ → (ℕ → ℕ) → ℕ) (w x : ℕ
   pub parity : (r i : ℕ) → d ≤ r → r < n → i < s → x r i ≡ f r (λ c. w c i)
   pub beyond : (r i : ℕ) → n ≤ r → i < s → x r i ≡ w r i
 
--- the same by what f makes of the data bytes, where the row has room
+-- the row before and then after the call for a code that is known: f is what it makes of the data bytes
 abbrev pub EncodedBy : EcSchema → (ℕ → (ℕ → ℕ) → ℕ) → List ℕ → List ℕ → Result (Unit {0}) StripeFault → Type 0
 EncodedBy s f row row' (Ok u) =
     RowRoom s row × ParityIs s.data_units (units s) s.cell_size f (byte_at s.cell_size row) (byte_at s.cell_size row')

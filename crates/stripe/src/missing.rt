@@ -1,5 +1,5 @@
 // Missing data cells of a row, made again from the lowest cells that are there.
-ghost use Rattle.std.specs.Prelude.{◌≡◌, ℕ, ◌+◌, ◌*◌, ◌<◌, ◌≤◌, length, slice_index};
+ghost use Rattle.std.specs.Prelude.{◌≡◌, ℕ, ◌+◌, ◌*◌, ◌<◌, ◌≤◌, length, take, slice_index};
 ghost use Rattle.algebra.specs.Matrices.{mixed};
 ghost use Rattle.matrix.specs.Grids.{grid};
 ghost use Rattle.stripe.specs.Coded.{byte_at, units, RowRoom};
@@ -36,14 +36,14 @@ impl<F: Copy> Workspace<F> {
     }
 }
 
-// Which cells of a row are there, and the lowest of them, which are enough to make the data cells again.
-#[derive(Clone, Copy)]
+// Which cells of a row are there, and the lowest of them, of which there are as many as data cells.
+#[derive(Clone, Copy, PartialEq, Eq, Debug)]
 struct Chosen<'a> {
     schema: EcSchema,
     there: &'a [bool; 16],
     cells: &'a [usize],
-    ghost lowest: { cells.now ≡ there_below (flag there.now) (units schema) },
-    ghost enough: { schema.data_units ≤ length cells.now },
+    ghost lowest: { cells.now ≡ take schema.data_units (there_below (flag there.now) (units schema)) },
+    ghost enough: { length cells.now ≡ schema.data_units },
 }
 
 impl Chosen<'_> {
@@ -80,7 +80,7 @@ impl Chosen<'_> {
         let Ok(()) = C::matrix(d, self.schema.parity_units, &mut space.generator) else {
             unreachable!()
         };
-        select_rows(&space.generator, d, self.cells, &mut space.square);
+        select_rows(&space.generator, self.cells, &mut space.square);
         let sides = Sides { rows: d, cols: d };
         let Ok(()) = invert(&space.square, sides, &mut space.work, &mut space.inverse) else {
             unreachable!()
@@ -98,24 +98,29 @@ pub fn recover(schema: EcSchema, there: &[bool; 16], row: &mut [u8]) -> Result<u
     if row.len() < row_bytes(schema) {
         return Err(StripeFault::Short);
     }
-    let lowest = lowest(there, schema.units());
+    let lowest = lowest(&there[..schema.units()]);
     let cells = lowest.len();
     if cells < schema.data_units {
         return Err(StripeFault::TooFew { cells });
     }
-    let made = count_missing(there, schema.data_units);
+    let made = count_missing(&there[..schema.data_units]);
     if made == 0 {
         return Ok(0);
     }
     let chosen = Chosen {
         schema,
         there,
-        cells: &lowest,
+        cells: &lowest[..schema.data_units],
     };
     match schema.codec {
-        Codec::RsLegacy => return Err(StripeFault::Legacy),
-        Codec::Rs => chosen.recover_by::<Rs>(row, &mut Workspace::of(Gf256 { value: 0 })),
-        Codec::Xor => chosen.recover_by::<Xor>(row, &mut Workspace::of(Gf2 { bit: false })),
+        Codec::RsLegacy => Err(StripeFault::Legacy),
+        Codec::Rs => {
+            chosen.recover_by::<Rs>(row, &mut Workspace::of(Gf256 { value: 0 }));
+            Ok(made)
+        }
+        Codec::Xor => {
+            chosen.recover_by::<Xor>(row, &mut Workspace::of(Gf2 { bit: false }));
+            Ok(made)
+        }
     }
-    Ok(made)
 }

@@ -42,6 +42,7 @@ fn encode_by<C: Code>(
     };
     let sides = Sides { rows: n, cols: d };
     let cells = cell_numbers();
+    // Stays: r is the number of a parity cell, and nothing here is indexed by it.
     for r in d..n {
         let Ok(()) = act_on_cells(generator, sides, r, &cells, s, r, row) else {
             unreachable!()

@@ -5,14 +5,14 @@ ghost use Rattle.matrix.specs.Grids.{grid};
 use field::Field;
 
 // Row k of the square is the row of the k-th chosen cell.
-pub(crate) fn select_rows<F: Field>(generator: &[F], d: usize, chosen: &[usize], square: &mut [F])
-    requires side { (1 ≤ d) × (d ≤ 16) }
-    requires enough { d ≤ length chosen.now }
-    requires rows { (k : ℕ) → k < d → slice_index chosen.now k * d + d ≤ length generator.now }
-    requires room { d * d ≤ length square.old }
-    ensures { (k c : ℕ) → k < d → c < d → grid F.Field.ops.zero d square.new k c ≡ grid F.Field.ops.zero d generator.now (slice_index chosen.now k) c }
+pub(crate) fn select_rows<F: Field>(generator: &[F], chosen: &[usize], square: &mut [F])
+    requires side { length chosen.now ≤ 16 }
+    requires rows { let d = length chosen.now in (k : ℕ) → k < d → slice_index chosen.now k * d + d ≤ length generator.now }
+    requires room { length chosen.now * length chosen.now ≤ length square.old }
+    ensures { let d = length chosen.now in (k c : ℕ) → k < d → c < d → grid F.Field.ops.zero d square.new k c ≡ grid F.Field.ops.zero d generator.now (slice_index chosen.now k) c }
 {
-    for (k, &r) in chosen[..d].iter().enumerate() {
+    let d = chosen.len();
+    for (k, &r) in chosen.iter().enumerate() {
         square[k * d..k * d + d].copy_from_slice(&generator[r * d..r * d + d]);
     }
 }

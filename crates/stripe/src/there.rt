@@ -1,5 +1,5 @@
 // How large a row is, and which of its cells are there.
-ghost use Rattle.std.specs.Prelude.{◌≡◌, ◌*◌, ◌≤◌, not, take, count_by};
+ghost use Rattle.std.specs.Prelude.{◌≡◌, ◌*◌, ◌≤◌, not, length, count_by};
 ghost use Rattle.stripe.specs.Coded.{units};
 ghost use Rattle.stripe.specs.There.{flag, there_below};
 
@@ -13,21 +13,20 @@ pub(crate) fn row_bytes(schema: EcSchema) -> usize
     schema.units() * schema.cell_size
 }
 
-// How many of the first n cells are missing.
-pub(crate) fn count_missing(there: &[bool; 16], n: usize) -> usize
-    requires { n ≤ 16 }
-    ensures { result ≡ count_by not (take n there.now) }
+// How many cells are missing.
+pub(crate) fn count_missing(there: &[bool]) -> usize
+    ensures { result ≡ count_by not there.now }
 {
-    there[..n].iter().filter(|&&here| !here).count()
+    there.iter().filter(|&&here| !here).count()
 }
 
-// Those of the first n cells that are there, the lowest first.
-pub(crate) fn lowest(there: &[bool; 16], n: usize) -> ArrayVec<usize, 16>
-    requires { n ≤ 16 }
-    ensures { result.items ≡ there_below (flag there.now) n }
+// The cells that are there, the lowest first.
+pub(crate) fn lowest(there: &[bool]) -> ArrayVec<usize, 16>
+    requires { length there.now ≤ 16 }
+    ensures { result.items ≡ there_below (flag there.now) (length there.now) }
 {
     let mut chosen = ArrayVec::new();
-    for (r, &here) in there[..n].iter().enumerate() {
+    for (r, &here) in there.iter().enumerate() {
         if here {
             chosen.push(r);
         }

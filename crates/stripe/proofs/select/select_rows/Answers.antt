@@ -1,6 +1,6 @@
-use Rattle.std.proofs.Common.{◌≡◌, ℕ, ◌+◌, ◌-◌, ◌*◌, ◌<◌, ◌≤◌, List, get_or, take, sym, ap, ◌∙◌, arith, below_more}
+use Rattle.std.proofs.Common.{◌≡◌, ℕ, ◌+◌, ◌-◌, ◌*◌, ◌<◌, ◌≤◌, List, length, get_or, take, sym, ap, ◌∙◌, arith, below_more}
 use Rattle.std.specs.List.{between}
-use Rattle.std.proofs.lemmas.List.{get_or-take, length-take-le}
+use Rattle.std.proofs.lemmas.List.{get_or-take}
 use Rattle.std.proofs.lemmas.List.Edits.{length-between, get_or-between}
 use Rattle.std.proofs.lemmas.Nat.{mul-add-lt, mul-le}
 use Rattle.std.proofs.lemmas.Slice.{take-put_mid_below, between-put_mid}
@@ -25,14 +25,13 @@ row_more O d k m w x f kept row h i j l o = below_more (λ i. grid O d x i j ≡
 
 pub loop-k-preserved : goal.loop-k-preserved
 loop-k-preserved g c =
-    let d = c.args.d in
+    let d = length c.args.chosen.now in
     let k = c.loop-k.k in
     let w = c.loop-k.square in
     let m = c.args.generator.now in
-    let n = length-take-le d c.args.chosen.now c.requires.enough in
     let b : (k + 1) * d ≤ d * d = mul-le (k + 1) d d d (omega arith) (omega arith) in
     row_more g.F.Field.ops.zero d k m w _ (λ k. get_or c.args.chosen.now k 0)
     (take-put_mid_below (k * d) (k * d + d - k * d) w c.copy_from_slice.new.self (k * d) (omega arith) (omega arith))
     (between-put_mid (k * d) (k * d + d - k * d) w c.copy_from_slice.new.self (k * d + d) (omega arith) (c.copy_from_slice.auto.self ∙ length-between w (k * d) (k * d + d) (omega arith))
-    ∙ c.copy_from_slice.ensures.after ∙ ap (λ (r : ℕ). between (r * d) (r * d + d) m) (get_or-take d c.args.chosen.now k 0 (omega arith)))
+    ∙ c.copy_from_slice.ensures.after)
     c.loop-k.invariant
