@@ -1,7 +1,7 @@
 -- Any d rows of the matrices of rs and xor have an inverse. Assumes nothing.
 use Rattle.std.specs.Prelude.{◌≡◌, ℕ, ◌+◌, ◌%◌, ◌<◌, ◌≤◌, ◌≢◌, bit_xor}
 use Rattle.std.proofs.Common.{sym, ap, ◌∙◌, subst, arith}
-use Rattle.std.specs.Int.Bits.{xor_assoc, xor_self, xor_zero_l, xor_zero_r}
+use Rattle.std.specs.Int.Bits.{xor_assoc, xor_zero_l}
 use Rattle.std.proofs.lemmas.Nat.{xor_mod, xor_lt}
 use Rattle.algebra.specs.Fields.{Ops, FieldLaws}
 use Rattle.algebra.specs.Codes.{Invertible}
@@ -12,12 +12,9 @@ use Rattle.algebra.proofs.Choices.{invertible}
 use Rattle.field.specs.declared.gf256.Gf256.{Gf256}
 use Rattle.field.specs.Models.{gf2, gf256, zero256, plus256}
 use Rattle.field.specs.Elements.{same_value}
-use Rattle.field.specs.Laws256.{laws256}
+use Rattle.field.specs.Laws256.{laws256, xor_back}
 use Rattle.field.specs.Laws2.{laws2}
 use Rattle.codes.specs.Generators.{Permitted, element, rs_part, rs_generator, xor_part, xor_generator}
-
-xor_back : (a b : ℕ) → bit_xor (bit_xor a b) b ≡ a
-xor_back a b = xor_assoc a b b ∙ ap (bit_xor a) (xor_self b) ∙ xor_zero_r a
 
 -- the differences of three numbers
 chain : (a b c : ℕ) → element (bit_xor a c) ≡ plus256 (element (bit_xor a b)) (element (bit_xor b c))

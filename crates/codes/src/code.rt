@@ -7,6 +7,14 @@ ghost use Rattle.codes.specs.Laid.{Laid};
 use super::fault::GeneratorFault;
 use field::Field;
 
+// Whether a row may have so many data and parity units.
+// Stays: the calls of a code take these two numbers, and what callers give is kept.
+pub(crate) fn is_permitted(data_units: usize, parity_units: usize) -> bool
+    ensures { Decides result (Permitted data_units parity_units) }
+{
+    data_units >= 1 && parity_units >= 1 && data_units.saturating_add(parity_units) <= 16
+}
+
 pub trait Code {
     type F: Field;
 
@@ -37,8 +45,8 @@ pub trait Code {
         if out.len() < entries {
             return Err(GeneratorFault::Sides);
         }
-        for i in 0..entries {
-            out[i] = Self::entry(data_units, i / data_units, i % data_units);
+        for (i, x) in out[..entries].iter_mut().enumerate() {
+            *x = Self::entry(data_units, i / data_units, i % data_units);
         }
         Ok(())
     }

@@ -2,21 +2,19 @@
 ghost use Rattle.std.specs.Prelude.{◌≡◌};
 ghost use Rattle.codes.specs.Faults.{number_of};
 
+// Each with the number that the refusal goes by outside the library.
 #[derive(Clone, Copy, PartialEq, Eq, Debug)]
 pub enum GeneratorFault {
     // the code has no matrix for so many data and parity units
-    Limit,
+    Limit = 2,
     // the buffer is too short for the matrix
-    Sides,
+    Sides = 10,
 }
 
 impl GeneratorFault {
     pub fn number(self) -> u8
         ensures { result ≡ number_of self }
     {
-        match self {
-            GeneratorFault::Limit => 2,
-            GeneratorFault::Sides => 10,
-        }
+        self as u8
     }
 }

@@ -4,10 +4,11 @@ ghost use Rattle.algebra.proofs.Parts.{generator_upper};
 ghost use Rattle.field.specs.Models;
 ghost use Rattle.codes.specs.Rows.{rs_permitted};
 
-use super::code::Code;
+use super::code::{Code, is_permitted};
 use field::Field;
 use field::gf256::Gf256;
 
+#[derive(Clone, Copy, PartialEq, Eq, Debug)]
 pub struct Rs;
 
 impl Code for Rs {
@@ -24,7 +25,7 @@ impl Code for Rs {
     ghost rows = { rs_permitted };
 
     fn permits(data_units: usize, parity_units: usize) -> bool {
-        data_units >= 1 && parity_units >= 1 && data_units <= 16 && parity_units <= 16 - data_units
+        is_permitted(data_units, parity_units)
     }
 
     fn entry(data_units: usize, row: usize, col: usize) -> Gf256 {
@@ -38,9 +39,6 @@ impl Code for Rs {
         let difference = Gf256 {
             value: ((row ^ col) & 0xff) as u8,
         };
-        match difference.inverse() {
-            Some(x) => x,
-            None => Gf256::zero(),
-        }
+        difference.inverse().unwrap_or(Gf256::zero())
     }
 }

@@ -5,10 +5,11 @@ ghost use Rattle.algebra.proofs.Parts.{generator_upper};
 ghost use Rattle.field.specs.Models;
 ghost use Rattle.codes.specs.Rows.{xor_invertible};
 
-use super::code::Code;
+use super::code::{Code, is_permitted};
 use field::Field;
 use field::gf2::Gf2;
 
+#[derive(Clone, Copy, PartialEq, Eq, Debug)]
 pub struct Xor;
 
 impl Code for Xor {
@@ -25,7 +26,7 @@ impl Code for Xor {
     ghost rows = { λ d p h. xor_invertible d p h.1 };
 
     fn permits(data_units: usize, parity_units: usize) -> bool {
-        data_units >= 1 && data_units <= 15 && parity_units == 1
+        parity_units == 1 && is_permitted(data_units, parity_units)
     }
 
     fn entry(data_units: usize, row: usize, col: usize) -> Gf2 {

@@ -11,7 +11,7 @@ use Rattle.algebra.specs.Fields.{FieldLaws}
 use Rattle.field.specs.Models.{zero256, gf256}
 use Rattle.field.specs.Elements.{same_value}
 
-xor_back : (a b : ℕ) → bit_xor (bit_xor a b) b ≡ a
+pub xor_back : (a b : ℕ) → bit_xor (bit_xor a b) b ≡ a
 xor_back a b = xor_assoc a b b ∙ ap (bit_xor a) (xor_self b) ∙ xor_zero_r a
 
 zero_or_not : (x : Gf256) → (x ≡ zero256) ⊎ (x ≢ zero256)

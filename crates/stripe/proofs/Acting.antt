@@ -34,10 +34,7 @@ same_inverse {K = K} L n a m b h i = record {
   left = λ r j l o. sum_same L n (λ k. K.times (b r k) (m k j)) (λ k. K.times (b r k) (a k j)) (λ k q. ap (K.times (b r k)) (h k j q o)) ∙ i.left r j l o;
 }
 
--- the matrices of a row of at most 16 cells fit tables of 256 and 512 entries
-pub matrix_room : (d p : ℕ) → d + p ≤ 16 → (d + p) * d ≤ 256
-matrix_room d p h = mul-le (d + p) d 16 16 h (omega arith)
-
+-- the matrices of a recovery fit tables of 256 and 512 entries
 pub square_room : (d p : ℕ) → d + p ≤ 16 → d * d ≤ 256
 square_room d p h = mul-le d d 16 16 (omega arith) (omega arith)
 

@@ -1,16 +1,10 @@
 -- The cells of a row that are there, counted and listed. Assumes nothing.
-use Rattle.std.proofs.Common.{◌≡◌, ℕ, zero, suc, ◌+◌, ◌-◌, ◌<◌, ◌≤◌, Bool, true, false, cond, ◌⊎◌, List, [], ◌∷◌, ◌++◌, length, get_or, set, sym, refl, ap, ◌∙◌, subst, ap₂, inl, inr, ⊎_elim, le_of_suc-le-suc, not-suc-le-zero, add-zero, eq-or-lt_of_le, add-one, arith, length-append, get_or-set_other, get_or-set_same, below_more}
-use Rattle.std.proofs.lemmas.List.{get_or_append_left, get_or-append_right}
+use Rattle.std.proofs.Common.{◌≡◌, ℕ, zero, suc, ◌+◌, ◌-◌, ◌<◌, ◌≤◌, Bool, true, false, cond, ◌⊎◌, List, [], ◌∷◌, ◌++◌, length, take, not, count_by, get_or, sym, refl, ap, ◌∙◌, subst, ap₂, inl, inr, ⊎_elim, le_of_suc-le-suc, not-suc-le-zero, add-zero, eq-or-lt_of_le, add-one, arith, length-append}
+use Rattle.std.proofs.lemmas.List.Sums.{count_by_more_no, count_by_more_yes}
+use Rattle.std.proofs.lemmas.List.{length-take, length-take-le, get_or-take, get_or_append_left, get_or-append_right}
 use Rattle.algebra.specs.Sums.{count}
 use Rattle.algebra.specs.Codes.{Choice}
-use Rattle.stripe.specs.There.{there_below, lowest_there}
-use Rattle.stripe.specs.Recovered.{Chosen}
-
-pub count_there : (there : ℕ → Bool) (n : ℕ) → there n ≡ true → count there (n + 1) ≡ count there n + 1
-count_there there n e = ap (count there) (add-one n) ∙ ap (λ b. count there n + cond b 1 0) e
-
-pub count_not : (there : ℕ → Bool) (n : ℕ) → there n ≡ false → count there (n + 1) ≡ count there n
-count_not there n e = ap (count there) (add-one n) ∙ ap (λ b. count there n + cond b 1 0) e ∙ add-zero (count there n)
+use Rattle.stripe.specs.There.{flag, there_below, lowest_there}
 
 pub count_le : (there : ℕ → Bool) (n : ℕ) → count there n ≤ n
 count_le there zero = omega arith
@@ -32,6 +26,31 @@ below_length there (suc n) = length-append (there_below there n) (cond (there n)
     by true = refl
     by false = refl
 
+-- flags that agree below n list the same cells
+pub below_same : (f g : ℕ → Bool) (n : ℕ) → ((k : ℕ) → k < n → f k ≡ g k) → there_below f n ≡ there_below g n
+below_same f g zero h = refl
+below_same f g (suc n) h = ap₂ (λ xs b. xs ++ cond b (n ∷ []) []) (below_same f g n (λ k l. h k (omega arith))) (h n (omega arith))
+
+pub lowest_of : (flags : List Bool) (n : ℕ) → n ≤ length flags → there_below (flag (take n flags)) (length (take n flags)) ≡ there_below (flag flags) n
+lowest_of flags n h =
+    ap (there_below (flag (take n flags))) (length-take-le n flags h) ∙ below_same (flag (take n flags)) (flag flags) n (λ k l. get_or-take n flags k false l)
+
+-- each of the first n cells is missing or there
+pub missing_count : (flags : List Bool) (n : ℕ) → n ≤ length flags → count_by not (take n flags) + count (flag flags) n ≡ n
+missing_count flags zero h = refl
+missing_count flags (suc n) h = by (flag flags n) refl (missing_count flags n (omega arith))
+  where
+    more : take (suc n) flags ≡ take (n + 1) flags
+    more = ap (λ (m : ℕ). take m flags) (sym (add-one n))
+
+    by : (b : Bool) → flag flags n ≡ b → count_by not (take n flags) + count (flag flags) n ≡ n → count_by not (take (suc n) flags) + (count (flag flags) n + cond (flag flags n) 1 0) ≡ suc n
+    by true e q =
+        let m = ap (count_by not) more ∙ count_by_more_no not flags n false (omega arith) (ap not e) in
+        let z = ap (λ b. cond {A = ℕ} b 1 0) e in omega arith
+    by false e q =
+        let m = ap (count_by not) more ∙ count_by_more_yes not flags n false (omega arith) (ap not e) in
+        let z = ap (λ b. cond {A = ℕ} b 1 0) e in omega arith
+
 -- the earlier cells keep their places
 pub below_kept : (there : ℕ → Bool) (n k : ℕ) → k < count there n → lowest_there there (n + 1) k ≡ lowest_there there n k
 below_kept there n k h =
@@ -47,18 +66,6 @@ below_last there n e =
     ∙ ap (λ (xs : List ℕ). get_or xs (count there n) 0) (below_step there n true e)
     ∙ get_or-append_right (there_below there n) (n ∷ []) (count there n) (count there n) 0 l (omega arith)
     ∙ ap (λ (i : ℕ). get_or (n ∷ []) i 0) z
-
--- one step of listing them in a table of enough places
-pub listed_there : (there : ℕ → Bool) (n found : ℕ) (chosen : List ℕ) → there n ≡ true → found ≡ count there n → found < length chosen
-    → ((k : ℕ) → k < found → get_or chosen k 0 ≡ lowest_there there n k) → (k : ℕ) → k < found + 1 → get_or (set chosen found n) k 0 ≡ lowest_there there (n + 1) k
-listed_there there n found chosen e f l t =
-    below_more (λ k. get_or (set chosen found n) k 0 ≡ lowest_there there (n + 1) k) found
-    (λ k h. get_or-set_other chosen found k n 0 (λ q. omega arith) ∙ t k h ∙ sym (below_kept there n k (omega arith)))
-    (get_or-set_same chosen found n 0 l ∙ sym (ap (lowest_there there (n + 1)) f ∙ below_last there n e))
-
-pub listed_not : (there : ℕ → Bool) (n found : ℕ) (chosen : List ℕ) → found ≡ count there n
-    → ((k : ℕ) → k < found → get_or chosen k 0 ≡ lowest_there there n k) → (k : ℕ) → k < found → get_or chosen k 0 ≡ lowest_there there (n + 1) k
-listed_not there n found chosen f t k h = t k h ∙ sym (below_kept there n k (omega arith))
 
 -- each cell that is listed is there, and they rise
 pub record Listing (there : ℕ → Bool) (n : ℕ) : Type 0 where
@@ -133,17 +140,24 @@ choice there d n h =
     let q = listing there n in
     record { below = λ k l. (q.each k (omega arith)).0; apart = λ i k l j e. let r = q.rising i k l (omega arith) in omega arith }
 
--- what the first d numbers of a table of the lowest cells are
-pub chosen_below : (d n : ℕ) (there : ℕ → Bool) (chosen : List ℕ) → Chosen d n there chosen → (k : ℕ) → k < d → get_or chosen k 0 < n
-chosen_below d n there chosen h k l = let e = h.lowest k l in let q = ((listing there n).each k (let m = h.enough in omega arith)).0 in omega arith
+-- what the lowest d of the cells that are there have
+module _ (there : ℕ → Bool) (d n : ℕ) (cells : List ℕ) (low : cells ≡ take d (there_below there n)) (enough : length cells ≡ d) where
+  counted : d ≤ count there n
+  counted =
+      let e = ap length low ∙ length-take d (there_below there n) in
+      let f = below_length there n in
+      omega arith
 
-pub chosen_there : (d n : ℕ) (there : ℕ → Bool) (chosen : List ℕ) → Chosen d n there chosen → (k : ℕ) → k < d → there (get_or chosen k 0) ≡ true
-chosen_there d n there chosen h k l = ap there (h.lowest k l) ∙ ((listing there n).each k (let m = h.enough in omega arith)).1
+  pub chosen_lowest : (k : ℕ) → k < d → get_or cells k 0 ≡ lowest_there there n k
+  chosen_lowest k l = ap (λ xs. get_or xs k 0) low ∙ get_or-take d (there_below there n) k 0 l
 
-pub chosen_choice : (d n : ℕ) (there : ℕ → Bool) (chosen : List ℕ) → Chosen d n there chosen → Choice d n (λ k. get_or chosen k 0)
-chosen_choice d n there chosen h =
-    let q = choice there d n h.enough in
-    record {
-      below = chosen_below d n there chosen h;
-      apart = λ i k l j e. q.apart i k l j (sym (h.lowest i (omega arith)) ∙ e ∙ h.lowest k j);
-    }
+  pub chosen_there : (k : ℕ) → k < d → there (get_or cells k 0) ≡ true
+  chosen_there k l = ap there (chosen_lowest k l) ∙ ((listing there n).each k (let m = counted in omega arith)).1
+
+  pub chosen_choice : Choice d n (λ k. get_or cells k 0)
+  chosen_choice =
+      let q = choice there d n counted in
+      record {
+        below = λ k l. let e = chosen_lowest k l in let b = q.below k l in omega arith;
+        apart = λ i k l j e. q.apart i k l j (sym (chosen_lowest i (omega arith)) ∙ e ∙ chosen_lowest k j);
+      }

@@ -1,5 +1,5 @@
 -- What holds of each codec. Assumes nothing.
-use Rattle.std.proofs.Common.{◌≡◌, ℕ, zero, suc, ◌+◌, ◌<◌, ◌≤◌, Bool, true, false, cond, List, Ok, sym, refl, ap, ◌∙◌, ⊎_elim, le_of_suc-le-suc, not-suc-le-zero, eq-or-lt_of_le, arith}
+use Rattle.std.proofs.Common.{◌≡◌, ℕ, zero, suc, ◌+◌, ◌<◌, ◌≤◌, Bool, true, false, cond, List, length, take, not, count_by, Ok, Err, Result, ◌≢◌, sym, refl, ap, ◌∙◌, subst, ⊎_elim, le_of_suc-le-suc, not-suc-le-zero, eq-or-lt_of_le, arith}
 use Rattle.algebra.specs.Fields.{Ops, FieldLaws}
 use Rattle.algebra.specs.Sums.{count}
 use Rattle.algebra.specs.Matrices.{identity, mixed}
@@ -16,10 +16,12 @@ use Rattle.policy.specs.declared.codec.Codec.{Codec}
 use Rattle.policy.specs.declared.codec.Codec.TheVariants.{Rs, RsLegacy, Xor}
 use Rattle.policy.specs.declared.schema.EcSchema.{EcSchema}
 use Rattle.stripe.specs.Coded.{byte_at, coded, units, RowRoom, FollowsCode, CellsDetermine}
-use Rattle.stripe.specs.Encoded.{ParityIs}
+use Rattle.stripe.specs.declared.fault.StripeFault.{StripeFault}
+use Rattle.stripe.specs.declared.fault.StripeFault.TheVariants.{Codec as NoCodec, Short, TooFew, Legacy}
+use Rattle.stripe.specs.Encoded.{ParityIs, EncodedBy, Encoded, RowFollows, OnlyParity}
 use Rattle.stripe.specs.Recovered.{MadeAgain, Recovered, DealtCells, RowDetermined}
 use Rattle.stripe.specs.There.{flag, lowest_there}
-use Rattle.stripe.proofs.Cells.{count_le, rank, choice, listing}
+use Rattle.stripe.proofs.Cells.{count_le, rank, choice, listing, missing_count}
 use Rattle.stripe.proofs.Rows.{Local, mixed_rows}
 
 -- a data cell of a row that follows a code is itself
@@ -34,6 +36,12 @@ coded_local Rs d r n u v h = mixed_same laws256 d (rs_generator d r) u v h
 coded_local Xor d r n u v h = mixed_same laws2 d (xor_generator d r) u v h
 coded_local RsLegacy d r n u v h = absurd (n refl)
 
+pub rs_known : Rs ≡ RsLegacy → ⊥
+rs_known e = let z : ◌≡◌ {A = ℕ} 0 1 = cc in omega arith
+
+pub xor_known : Xor ≡ RsLegacy → ⊥
+xor_known e = let z : ◌≡◌ {A = ℕ} 0 1 = cc in omega arith
+
 -- ---- parity
 pub parity_follows : (codec : Codec) (d n s : ℕ) (w x : ℕ → ℕ → ℕ) → (codec ≡ RsLegacy → ⊥) → ((r i : ℕ) → x r i < 256) → ParityIs d n s (coded codec d) w x
     → (i : ℕ) → i < s → FollowsCode codec d n (λ r. x r i)
@@ -47,6 +55,30 @@ parity_follows codec d n s w x k b t i h r l = ⊎_elim data_cell parity_cell (l
 
 pub only_parity : (codec : Codec) (d n : ℕ) (u v : ℕ → ℕ) → (codec ≡ RsLegacy → ⊥) → FollowsCode codec d n u → FollowsCode codec d n v → ((c : ℕ) → c < d → v c ≡ u c) → (r : ℕ) → r < n → v r ≡ u r
 only_parity codec d n u v k fu fv h r l = fv r l ∙ coded_local codec d r k v u h ∙ sym (fu r l)
+
+-- what a row whose parity was made answers, for a code that is known
+pub record Coding (s : EcSchema) (row row' : List ℕ) (r : Result (Unit {0}) StripeFault) : Type 0 where
+  pub parity_by_the_code : Encoded s row row' r
+  pub row_follows_the_code : RowFollows s row' r
+  pub no_other_parity : OnlyParity s row' r
+
+pub coding : (s : EcSchema) (k : Codec) (row row' : List ℕ) (r : Result (Unit {0}) StripeFault) → s.codec ≡ k → (k ≢ RsLegacy) → ((r i : ℕ) → byte_at s.cell_size row' r i < 256)
+    → EncodedBy s (coded k s.data_units) row row' r → Coding s row row' r
+coding s k row row' r e known b t =
+    by r (λ q. known (sym e ∙ q)) (subst (λ (k : Codec). EncodedBy s (coded k s.data_units) row row' r) (sym e) t)
+  where
+    by : (r : Result (Unit {0}) StripeFault) → (s.codec ≢ RsLegacy) → EncodedBy s (coded s.codec s.data_units) row row' r → Coding s row row' r
+    by (Ok u) k (room, t) =
+        let f = parity_follows s.codec s.data_units (units s) s.cell_size (byte_at s.cell_size row) (byte_at s.cell_size row') k b t in
+        record {
+          parity_by_the_code = (k, room, t);
+          row_follows_the_code = f;
+          no_other_parity = λ v i h q e r l. only_parity s.codec s.data_units (units s) (λ r. byte_at s.cell_size row' r i) v k (f i h) q e r l;
+        }
+    by (Err Short) k (short, e) = record { parity_by_the_code = (k, short, e); row_follows_the_code = tt; no_other_parity = tt }
+    by (Err NoCodec) k e = absurd e
+    by (Err (TooFew cells)) k e = absurd e
+    by (Err Legacy) k e = absurd e
 
 -- ---- cells made again
 -- where all of the first d are counted, each is there
@@ -107,26 +139,41 @@ cells_determine Rs d p n o k = determined laws256 d (d + p) (rs_generator d) (rs
 cells_determine Xor d p n o k = determined laws2 d (d + p) (xor_generator d) (xor_invertible d p (o refl)) (omega arith)
 cells_determine RsLegacy d p n o k = absurd (k refl)
 
--- ---- the answers of the calls on a row
-pub rs_known : Rs ≡ RsLegacy → ⊥
-rs_known e = let z : ◌≡◌ {A = ℕ} 0 1 = cc in omega arith
+-- ---- the answers of a recovery
+-- what a row made again answers
+pub record Again (s : EcSchema) (flags : List Bool) (row row' : List ℕ) (made : ℕ) : Type 0 where
+  pub from_the_lowest_there : Recovered s flags row row' (Ok made)
+  pub the_cells_dealt : DealtCells s flags row row' (Ok made)
+  pub cells_determine_the_row : RowDetermined s (Ok made)
 
-pub xor_known : Xor ≡ RsLegacy → ⊥
-xor_known e = let z : ◌≡◌ {A = ℕ} 0 1 = cc in omega arith
+-- where the buffer has room for the row, and so many of its cells are there
+module _ (s : EcSchema) (flags : List Bool) (row : List ℕ) (cells : ℕ) (room : RowRoom s row) (long : s.data_units ≤ length flags) (held : cells ≡ count (flag flags) (units s)) where
+  pub too_few : cells < s.data_units → Recovered s flags row row (Err (TooFew cells))
+  too_few h = (room, held, h, refl)
 
--- what a row made again answers, from what was made
-pub record Answered (s : EcSchema) (flags : List Bool) (row row' : List ℕ) (made : ℕ) : Type 0 where
-  pub recovered : Recovered s flags row row' (Ok made)
-  pub dealt_cells : DealtCells s flags row row' (Ok made)
-  pub determines : RowDetermined s (Ok made)
+  pub old_codec : s.codec ≡ RsLegacy → s.data_units ≤ cells → (count_by not (take s.data_units flags) ≢ 0) → Recovered s flags row row (Err Legacy)
+  old_codec k h m = let t = missing_count flags s.data_units long in (room, omega arith, k, omega arith, refl)
 
-pub answer : (s : EcSchema) (flags : List Bool) (row row' : List ℕ) (made : ℕ) → RowRoom s row → s.data_units ≤ count (flag flags) (units s)
-    → made + count (flag flags) s.data_units ≡ s.data_units → (s.codec ≡ RsLegacy → made ≡ 0) → ((r i : ℕ) → byte_at s.cell_size row' r i < 256)
-    → MadeAgain s.data_units (units s) s.cell_size (coded s.codec s.data_units) (flag flags) (byte_at s.cell_size row) (byte_at s.cell_size row')
-    → Answered s flags row row' made
-answer s flags row row' made room enough count-is old bytes t = record {
-  recovered = (room, enough, count-is, old, t);
-  dealt_cells = dealt s.codec s.data_units s.parity_units s.cell_size (flag flags) (byte_at s.cell_size row) (byte_at s.cell_size row') s.narrow s.xor_alone
-      (λ e. let z = old e in omega arith) enough bytes t;
-  determines = cells_determine s.codec s.data_units s.parity_units s.narrow s.xor_alone;
-}
+  pub again : (row' : List ℕ) (made : ℕ) → s.data_units ≤ cells → made ≡ count_by not (take s.data_units flags) → (s.codec ≡ RsLegacy → made ≡ 0) → ((r i : ℕ) → byte_at s.cell_size row' r i < 256)
+      → MadeAgain s.data_units (units s) s.cell_size (coded s.codec s.data_units) (flag flags) (byte_at s.cell_size row) (byte_at s.cell_size row') → Again s flags row row' made
+  again row' made h m old bytes t =
+      let c = missing_count flags s.data_units long in
+      record {
+        from_the_lowest_there = (room, omega arith, omega arith, old, t);
+        the_cells_dealt = dealt s.codec s.data_units s.parity_units s.cell_size (flag flags) (byte_at s.cell_size row) (byte_at s.cell_size row') s.narrow s.xor_alone
+            (λ k. let z = old k in omega arith) (omega arith) bytes t;
+        cells_determine_the_row = cells_determine s.codec s.data_units s.parity_units s.narrow s.xor_alone;
+      }
+
+  -- where no data cell is missing
+  pub all_held : s.data_units ≤ cells → 0 ≡ count_by not (take s.data_units flags) → ((r i : ℕ) → byte_at s.cell_size row r i < 256) → Again s flags row row 0
+  all_held h m bytes =
+      let c = missing_count flags s.data_units long in
+      again row 0 h m (λ k. refl) bytes (none_missing s.codec s.data_units (units s) s.cell_size (flag flags) (byte_at s.cell_size row) (omega arith) bytes (omega arith))
+
+  -- where a known code made the missing ones
+  pub by_code : (k : Codec) (row' : List ℕ) (made : ℕ) → s.codec ≡ k → (k ≢ RsLegacy) → s.data_units ≤ cells → made ≡ count_by not (take s.data_units flags) → ((r i : ℕ) → byte_at s.cell_size row' r i < 256)
+      → MadeAgain s.data_units (units s) s.cell_size (coded k s.data_units) (flag flags) (byte_at s.cell_size row) (byte_at s.cell_size row') → Again s flags row row' made
+  by_code k row' made e known h m bytes t =
+      again row' made h m (λ q. absurd (known (sym e ∙ q))) bytes
+      (subst (λ (k : Codec). MadeAgain s.data_units (units s) s.cell_size (coded k s.data_units) (flag flags) (byte_at s.cell_size row) (byte_at s.cell_size row')) (sym e) t)

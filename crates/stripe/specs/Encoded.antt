@@ -12,6 +12,15 @@ pub record ParityIs (d n s : ℕ) (f : ℕ → (ℕ → ℕ) → ℕ) (w x : ℕ
   pub parity : (r i : ℕ) → d ≤ r → r < n → i < s → x r i ≡ f r (λ c. w c i)
   pub beyond : (r i : ℕ) → n ≤ r → i < s → x r i ≡ w r i
 
+-- the row before and then after the call for a code that is known: f is what it makes of the data bytes
+abbrev pub EncodedBy : EcSchema → (ℕ → (ℕ → ℕ) → ℕ) → List ℕ → List ℕ → Result (Unit {0}) StripeFault → Type 0
+EncodedBy s f row row' (Ok u) =
+    RowRoom s row × ParityIs s.data_units (units s) s.cell_size f (byte_at s.cell_size row) (byte_at s.cell_size row')
+EncodedBy s f row row' (Err Codec) = ⊥
+EncodedBy s f row row' (Err Short) = (RowRoom s row → ⊥) × (row' ≡ row)
+EncodedBy s f row row' (Err (TooFew cells)) = ⊥
+EncodedBy s f row row' (Err Legacy) = ⊥
+
 -- the row before and then after the call, by its answer
 abbrev pub Encoded : EcSchema → List ℕ → List ℕ → Result (Unit {0}) StripeFault → Type 0
 Encoded s row row' (Ok u) =

@@ -1,5 +1,5 @@
 -- What making missing data cells again answers, and what it leaves in the row buffer. Assumes nothing.
-use Rattle.std.specs.Prelude.{◌≡◌, ℕ, ◌+◌, ◌<◌, ◌≤◌, Bool, true, false, List, Ok, Err, Result, slice_index}
+use Rattle.std.specs.Prelude.{◌≡◌, ℕ, ◌+◌, ◌<◌, ◌≤◌, Bool, true, false, List, Ok, Err, Result}
 use Rattle.algebra.specs.Sums.{count}
 use Rattle.algebra.specs.Codes.{Bytes}
 use Rattle.policy.specs.declared.codec.Codec.TheVariants.{RsLegacy}
@@ -20,11 +20,6 @@ pub record Filled (d s : ℕ) (there : ℕ → Bool) (f : ℕ → (ℕ → ℕ) 
   pub filled : (r i : ℕ) → r < d → there r ≡ false → i < s → x r i ≡ f r (λ c. w c i)
   pub kept : (r i : ℕ) → there r ≡ true → i < s → x r i ≡ w r i
   pub past : (r i : ℕ) → d ≤ r → i < s → x r i ≡ w r i
-
--- the first d numbers of a list are the lowest d of the n cells that are there
-pub record Chosen (d n : ℕ) (there : ℕ → Bool) (chosen : List ℕ) : Type 0 where
-  pub enough : d ≤ count there n
-  pub lowest : (k : ℕ) → k < d → slice_index chosen k ≡ lowest_there there n k
 
 -- the row before and then after the call, by its answer
 abbrev pub Recovered : EcSchema → List Bool → List ℕ → List ℕ → Result ℕ StripeFault → Type 0

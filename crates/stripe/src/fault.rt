@@ -15,6 +15,7 @@ pub enum StripeFault {
 }
 
 impl StripeFault {
+    // Stays: an enum of which a case holds a value is not cast to a number.
     pub fn number(self) -> u8
         ensures { result ≡ number_of self }
     {

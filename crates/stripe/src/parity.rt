@@ -1,9 +1,8 @@
 // The parity cells of a row.
-ghost use Rattle.std.specs.Prelude.{◌≡◌, ℕ, ◌+◌, ◌*◌, ◌<◌, ◌≤◌, length, Ok, ◌≢◌};
+ghost use Rattle.std.specs.Prelude.{◌≡◌, ℕ, ◌+◌, ◌*◌, ◌<◌, ◌≤◌, length, slice_index};
 ghost use Rattle.algebra.specs.Matrices.{mixed};
-ghost use Rattle.policy.specs.declared.codec.Codec.TheVariants.{RsLegacy};
-ghost use Rattle.stripe.specs.Coded.{byte_at, coded, units, RowRoom};
-ghost use Rattle.stripe.specs.Encoded.{ParityIs, Encoded, RowFollows, OnlyParity};
+ghost use Rattle.stripe.specs.Coded.{units};
+ghost use Rattle.stripe.specs.Encoded.{EncodedBy, Encoded, RowFollows, OnlyParity};
 
 use super::fault::StripeFault;
 use super::there::row_bytes;
@@ -13,51 +12,43 @@ use field::gf2::Gf2;
 use field::gf256::Gf256;
 use matrix::{Sides, act_on_cells};
 use policy::{Codec, EcSchema};
+use std::array;
 
 // The cells of a row by number: the sources of every parity cell are the first of them.
-const CELLS: [usize; 16] = [0, 1, 2, 3, 4, 5, 6, 7, 8, 9, 10, 11, 12, 13, 14, 15];
-
-// Makes the parity cells by a code, whose matrix goes into the slice lent for it.
-fn encode_by<C: Code>(d: usize, p: usize, s: usize, row: &mut [u8], generator: &mut [C::F])
-    requires code { (C.Code.permits d p) × ((1 ≤ d) × ((1 ≤ p) × (d + p ≤ 16))) }
-    requires room { (1 ≤ s) × (((d + p) * s ≤ length row.old) × ((d + p) * d ≤ length generator.old)) }
-    ensures { ParityIs d (d + p) s (λ r v. mixed C.F.Field.ops d (C.Code.generator d r) v) (byte_at s row.old) (byte_at s row.new) }
+fn cell_numbers() -> [usize; 16]
+    ensures { (k : ℕ) → k < 16 → slice_index result k ≡ k }
 {
-    let Ok(()) = C::matrix(d, p, generator) else {
-        unreachable()
-    };
-    let sides = Sides {
-        rows: d + p,
-        cols: d,
-    };
-    for r in d..d + p {
-        let Ok(()) = act_on_cells(generator, sides, r, &CELLS, s, r, row) else {
-            unreachable()
-        };
-    }
+    array::from_fn(|k| k)
 }
 
-// Makes the parity cells of a row that the buffer has room for, by a code that is known.
-fn encode_row(schema: EcSchema, row: &mut [u8])
-    requires { (schema.codec ≢ RsLegacy) × (RowRoom schema row.old) }
-    ensures parity { ParityIs schema.data_units (units schema) schema.cell_size (coded schema.codec schema.data_units) (byte_at schema.cell_size row.old) (byte_at schema.cell_size row.new) }
-    ensures follows { RowFollows schema row.new (Ok tt) }
-    ensures only { OnlyParity schema row.new (Ok tt) }
+// Makes the parity cells by a code, whose matrix goes into the slice lent for it.
+fn encode_by<C: Code>(
+    schema: EcSchema,
+    row: &mut [u8],
+    generator: &mut [C::F],
+) -> Result<(), StripeFault>
+    requires code { C.Code.permits schema.data_units schema.parity_units }
+    requires space { 256 ≤ length generator.old }
+    ensures { EncodedBy schema (λ r v. mixed C.F.Field.ops schema.data_units (C.Code.generator schema.data_units r) v) row.old row.new result }
 {
-    let d = schema.data_units;
-    let p = schema.parity_units;
-    let s = schema.cell_size;
-    match schema.codec {
-        Codec::Rs => {
-            let mut generator = [Gf256 { value: 0 }; 256];
-            encode_by::<Rs>(d, p, s, row, &mut generator);
-        }
-        Codec::Xor => {
-            let mut generator = [Gf2 { bit: false }; 256];
-            encode_by::<Xor>(d, p, s, row, &mut generator);
-        }
-        Codec::RsLegacy => unreachable(),
+    if row.len() < row_bytes(schema) {
+        return Err(StripeFault::Short);
     }
+    let d = schema.data_units;
+    let n = schema.units();
+    let s = schema.cell_size;
+    let Ok(()) = C::matrix(d, schema.parity_units, generator) else {
+        unreachable!()
+    };
+    let sides = Sides { rows: n, cols: d };
+    let cells = cell_numbers();
+    // Stays: r is the number of a parity cell, and nothing here is indexed by it.
+    for r in d..n {
+        let Ok(()) = act_on_cells(generator, sides, r, &cells, s, r, row) else {
+            unreachable!()
+        };
+    }
+    Ok(())
 }
 
 // Makes the parity cells of the row whose data cells lie first in the buffer, and puts them after those.
@@ -66,12 +57,9 @@ pub fn encode(schema: EcSchema, row: &mut [u8]) -> Result<(), StripeFault>
     ensures row_follows_the_code { RowFollows schema row.new result }
     ensures no_other_parity { OnlyParity schema row.new result }
 {
-    if let Codec::RsLegacy = schema.codec {
-        return Err(StripeFault::Codec);
+    match schema.codec {
+        Codec::RsLegacy => Err(StripeFault::Codec),
+        Codec::Rs => encode_by::<Rs>(schema, row, &mut [Gf256 { value: 0 }; 256]),
+        Codec::Xor => encode_by::<Xor>(schema, row, &mut [Gf2 { bit: false }; 256]),
     }
-    if row.len() < row_bytes(schema) {
-        return Err(StripeFault::Short);
-    }
-    encode_row(schema, row);
-    Ok(())
 }
