@@ -1,6 +1,6 @@
 -- A number that is written as a varint is read back. Assumes nothing.
 use Rattle.std.proofs.Common.{◌≡◌, ℕ, zero, suc, ◌+◌, ◌/◌, ◌%◌, ◌^◌, ◌<◌, ◌≤◌, ltb, leb, List, [], ◌∷◌, ◌++◌, length, take, Ok, sym, ap, ◌∙◌, ap₂, inl, inr, arith, length-append}
-use lib.Seq.{take-append_seam, drop-append_seam}
+use Rattle.std.proofs.Math.Seq.{take-append_seam, drop-append_seam}
 use Rattle.std.proofs.lemmas.Bool.{lt-ltb, le-ltb, lt-leb, cond-true, cond-false, cases_lt}
 use Rattle.wire.specs.declared.varints.Varint.{Varint}
 use Rattle.wire.specs.Readings.{Reading}

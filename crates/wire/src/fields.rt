@@ -1,14 +1,14 @@
 // Fields: a key with number and wire type, and the value that the wire type asks for.
-ghost use Rattle.std.specs.Prelude.{◌≡◌, ◌+◌, ◌<◌, ◌≤◌, length, take, drop, IfOk, nat_le};
-ghost use Rattle.wire.specs.Numbers.{little};
-ghost use Rattle.wire.specs.Fields.{varint_value, fixed64_value, part_value, fixed32_value, numbered, keyed, field_at};
-ghost use Rattle.wire.specs.Shown.{shown};
+ghost use Rattle.std.specs.Prelude.{◌≡◌, ◌<◌, ◌≤◌, length, IfOk};
+ghost use Rattle.wire.specs.Readings.{seen};
+ghost use Rattle.wire.specs.Fields.{reached, part_value, value_at, field_at};
+ghost use Rattle.wire.specs.Shown.{shown_value, shown};
 
 use crate::faults::WireFault;
-use crate::varints::{Varint, varint_at};
+use crate::rest::Rest;
 
 // What a field holds; a part is lent from the message, and begins at a place of it.
-#[derive(Clone, Copy)]
+#[derive(Clone, Copy, PartialEq, Eq, Debug)]
 pub enum WireValue<'a> {
     Varint(u64),
     Fixed64(u64),
@@ -17,137 +17,55 @@ pub enum WireValue<'a> {
 }
 
 // A field, and the place after its last byte.
-#[derive(Clone, Copy)]
+#[derive(Clone, Copy, PartialEq, Eq, Debug)]
 pub struct WireField<'a> {
     pub number: u32,
     pub value: WireValue<'a>,
     pub next: usize,
 }
 
-// Whether the message has so many bytes from the place on.
-fn has_bytes(message: &[u8], at: usize, count: u64) -> bool
-    requires { at ≤ length message.now }
-    ensures { result ≡ nat_le (at + count) (length message.now) }
-{
-    count <= (message.len() - at) as u64
-}
-
-fn low_four(message: &[u8], at: usize) -> u32
-    requires { at + 4 ≤ length message.now }
-    ensures { result ≡ little (take 4 (drop at message.now)) }
-{
-    u32::from_le_bytes([
-        message[at],
-        message[at + 1],
-        message[at + 2],
-        message[at + 3],
-    ])
-}
-
-fn low_eight(message: &[u8], at: usize) -> u64
-    requires { at + 8 ≤ length message.now }
-    ensures { result ≡ little (take 8 (drop at message.now)) }
-{
-    u64::from_le_bytes([
-        message[at],
-        message[at + 1],
-        message[at + 2],
-        message[at + 3],
-        message[at + 4],
-        message[at + 5],
-        message[at + 6],
-        message[at + 7],
-    ])
-}
-
-fn read_number<'a>(message: &'a [u8], number: u32, at: usize) -> Result<WireField<'a>, WireFault>
-    requires { at ≤ length message.now }
-    ensures reads_the_value { shown result ≡ numbered number (varint_value message.now at) }
-    ensures moves_on { IfOk result (λ f. (at < f.next) × (f.next ≤ length message.now)) }
-{
-    let varint = varint_at(message, at)?;
-    Ok(WireField {
-        number,
-        value: WireValue::Varint(varint.value),
-        next: varint.next,
-    })
-}
-
-fn read_fixed64<'a>(message: &'a [u8], number: u32, at: usize) -> Result<WireField<'a>, WireFault>
-    requires { at ≤ length message.now }
-    ensures reads_the_value { shown result ≡ numbered number (fixed64_value message.now at) }
-    ensures moves_on { IfOk result (λ f. (at < f.next) × (f.next ≤ length message.now)) }
-{
-    if !has_bytes(message, at, 8) {
-        return Err(WireFault::CutShort);
+impl<'a> Rest<'a> {
+    // Takes a length, which is a varint, and as many bytes.
+    pub fn take_part(&mut self) -> Result<WireValue<'a>, WireFault>
+        ensures reads_the_part { seen (λ v. reached (shown_value v) self.new.at) result ≡ part_value self.old.message.now self.old.at }
+        ensures same_message { self.new.message ≡ self.old.message }
+    {
+        let count = self.take_varint()?;
+        let place = self.at;
+        let bytes = self.take_bytes(count)?;
+        Ok(WireValue::Part { bytes, place })
     }
-    Ok(WireField {
-        number,
-        value: WireValue::Fixed64(low_eight(message, at)),
-        next: at + 8,
-    })
-}
 
-fn read_part<'a>(message: &'a [u8], number: u32, at: usize) -> Result<WireField<'a>, WireFault>
-    requires { at ≤ length message.now }
-    ensures reads_the_value { shown result ≡ numbered number (part_value message.now at) }
-    ensures moves_on { IfOk result (λ f. (at < f.next) × (f.next ≤ length message.now)) }
-{
-    let len = varint_at(message, at)?;
-    let place = len.next;
-    if !has_bytes(message, place, len.value) {
-        return Err(WireFault::CutShort);
-    }
-    let next = place + len.value as usize;
-    Ok(WireField {
-        number,
-        value: WireValue::Part {
-            bytes: &message[place..next],
-            place,
-        },
-        next,
-    })
-}
-
-fn read_fixed32<'a>(message: &'a [u8], number: u32, at: usize) -> Result<WireField<'a>, WireFault>
-    requires { at ≤ length message.now }
-    ensures reads_the_value { shown result ≡ numbered number (fixed32_value message.now at) }
-    ensures moves_on { IfOk result (λ f. (at < f.next) × (f.next ≤ length message.now)) }
-{
-    if !has_bytes(message, at, 4) {
-        return Err(WireFault::CutShort);
-    }
-    Ok(WireField {
-        number,
-        value: WireValue::Fixed32(low_four(message, at)),
-        next: at + 4,
-    })
-}
-
-// The field whose key was read.
-fn read_keyed<'a>(message: &'a [u8], key: Varint) -> Result<WireField<'a>, WireFault>
-    requires { key.next ≤ length message.now }
-    ensures reads_the_value { shown result ≡ keyed message.now key }
-    ensures moves_on { IfOk result (λ f. (key.next < f.next) × (f.next ≤ length message.now)) }
-{
-    if key.value > 0xFFFF_FFFF || key.value / 8 == 0 {
-        return Err(WireFault::Malformed);
-    }
-    let number = (key.value / 8) as u32;
-    match key.value % 8 {
-        0 => read_number(message, number, key.next),
-        1 => read_fixed64(message, number, key.next),
-        2 => read_part(message, number, key.next),
-        5 => read_fixed32(message, number, key.next),
-        _ => Err(WireFault::Malformed),
+    // Takes what a wire type asks for.
+    pub fn take_value(&mut self, wire_type: u32) -> Result<WireValue<'a>, WireFault>
+        ensures reads_the_value { seen (λ v. reached (shown_value v) self.new.at) result ≡ value_at self.old.message.now wire_type self.old.at }
+        ensures same_message { self.new.message ≡ self.old.message }
+    {
+        match wire_type {
+            0 => Ok(WireValue::Varint(self.take_varint()?)),
+            1 => Ok(WireValue::Fixed64(u64::from_le_bytes(self.take_array()?))),
+            2 => self.take_part(),
+            5 => Ok(WireValue::Fixed32(u32::from_le_bytes(self.take_array()?))),
+            _ => Err(WireFault::Malformed),
+        }
     }
 }
 
 // The field at a place.
+#[tactic(auto, unfolding(crate::specs::Fields::field_at))]
 pub fn read_field<'a>(message: &'a [u8], at: usize) -> Result<WireField<'a>, WireFault>
     ensures reads_the_field { shown result ≡ field_at message.now at }
     ensures moves_on { IfOk result (λ f. (at < f.next) × (f.next ≤ length message.now)) }
 {
-    let key = varint_at(message, at)?;
-    read_keyed(message, key)
+    let mut rest = Rest { message, at };
+    let key = u32::try_from(rest.take_varint()?).map_err(|_| WireFault::Malformed)?;
+    if key / 8 == 0 {
+        return Err(WireFault::Malformed);
+    }
+    let value = rest.take_value(key % 8)?;
+    Ok(WireField {
+        number: key / 8,
+        value,
+        next: rest.at,
+    })
 }

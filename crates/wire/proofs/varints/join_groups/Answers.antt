@@ -1,16 +1,19 @@
--- Each turn takes the byte before those that are joined, and at most ten bytes have seventy bits.
-use Rattle.std.proofs.Common.{◌+◌, ◌-◌, drop, arith}
-use Rattle.wire.proofs.Groups.{joined_more, joined_fits}
+-- Each turn takes the last of the bytes that are left.
+use Rattle.std.proofs.Common.{◌≡◌, ℕ, ◌+◌, ◌*◌, ◌%◌, List, ap, ◌∙◌, arith}
+use Rattle.wire.specs.Varints.{joined}
+use Rattle.wire.proofs.Groups.{onto, onto_none, onto_next, onto_more}
 use Rattle.wire.proofs.varints.join_groups.Goals as goal
 
-pub overflow_mul-value : goal.overflow_mul-value
-overflow_mul-value c = omega (arith, c.loop-left.invariant.1, joined_fits (c.args.count - c.loop-left.left) (drop (c.args.at + c.loop-left.left) c.args.message.now) (omega arith))
+pub loop-byte-init : goal.loop-byte-init
+loop-byte-init c = ap (λ (bs : List ℕ). onto bs 0) (cc) ∙ onto_none c.args.bytes.now
 
-pub overflow_add-value-in-loop-left : goal.overflow_add-value-in-loop-left
-overflow_add-value-in-loop-left c = omega (arith, c.loop-left.invariant.1, joined_fits (c.args.count - c.loop-left.left) (drop (c.args.at + c.loop-left.left) c.args.message.now) (omega arith))
+pub returns-in_err-checked_mul : goal.returns-in_err-checked_mul
+returns-in_err-checked_mul c =
+    let next = c.loop-byte.value * 128 + c.in-Some.byte.now % 128 in
+    let all : onto c.next.new.self.iter.rest.now next ≡ joined c.args.bytes.now = onto_next _ _ _ _ _ c.in-Some.ensures.steps c.loop-byte.invariant in
+    rw c.from_residual.ensures (omega (arith, all, onto_more c.next.new.self.iter.rest.now next, c.in_err-checked_mul.ensures))
 
-pub loop-left-preserved : goal.loop-left-preserved
-loop-left-preserved c = (
-  omega arith,
-  joined_more c.args.message.now c.args.at c.loop-left.left c.args.count c.loop-left.value (omega arith) (omega arith) (omega arith) c.loop-left.invariant.1,
-)
+pub loop-byte-preserved : goal.loop-byte-preserved
+loop-byte-preserved c =
+    let is : c.in_ok-value.value ≡ c.loop-byte.value * 128 + c.in-Some.byte.now % 128 = omega (arith, c.in_ok-value.ensures, c.in_ok-checked_mul.ensures) in
+    ap (onto c.next.new.self.iter.rest.now) is ∙ onto_next _ _ _ _ _ c.in-Some.ensures.steps c.loop-byte.invariant
