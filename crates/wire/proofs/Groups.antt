@@ -1,10 +1,11 @@
 -- Varints byte by byte. Assumes nothing.
-use Rattle.std.proofs.Common.{◌≡◌, ℕ, zero, suc, ◌+◌, ◌*◌, ◌%◌, ◌<◌, ◌≤◌, min, ltb, leb, List, [], ◌∷◌, length, take, drop, Err, ap, ◌∙◌, refl, sym, arith, length-drop, inl, inr}
+use Rattle.std.proofs.Common.{◌≡◌, ℕ, zero, suc, ◌+◌, ◌*◌, ◌%◌, ◌<◌, ◌≤◌, min, ltb, leb, List, [], ◌∷◌, take, drop, Err, ap, ◌∙◌, refl, sym, arith, length-drop, inl, inr}
 use Rattle.std.specs.List.{prefix_len, push}
+use Rattle.std.proofs.lemmas.Bool.Decides.{nat_tests}
 use Rattle.std.proofs.lemmas.Bool.{lt-ltb, le-ltb, lt-leb, le-leb, cond-true, cond-false, cases_lt}
 use Rattle.wire.specs.Varints.{followed, joined, fitting, varint_from}
 use Rattle.wire.specs.Fields.{bytes_at}
-use Rattle.wire.specs.Readings.{Reading, and_then}
+use Rattle.wire.specs.Readings.{and_then}
 use Rattle.wire.specs.declared.faults.WireFault.TheVariants.{Malformed}
 
 -- the bytes at the front that have another after them, counted up to so many
@@ -38,25 +39,10 @@ pub onto_more : (bs : List ℕ) (n : ℕ) → n ≤ onto bs n
 onto_more [] n = omega arith
 onto_more (b ∷ bs) n = omega (arith, onto_more bs n)
 
--- what so many groups of seven bits can say
-abbrev pub limit : ℕ → ℕ
-limit zero = 1
-limit (suc n) = 128 * limit n
-
 -- what a varint is, by how many of its bytes have another after them, counted up to ten
 pub varint_long : (m : List ℕ) (at n : ℕ) → n ≡ min 10 (followed (drop at m)) → n ≡ 10 → varint_from m at ≡ Err Malformed
-varint_long m at n e h = cond-true (leb 10 (followed (drop at m))) _ _ (le-leb 10 (followed (drop at m)) (omega arith))
+varint_long m at n e h = grind (arith, nat_tests)
 
 pub varint_short : (m : List ℕ) (at n : ℕ) → n ≡ min 10 (followed (drop at m)) → n < 10
     → varint_from m at ≡ and_then (bytes_at m at (n + 1)) (λ gs. fitting (joined gs) (at + n + 1))
-varint_short m at n e h =
-    let short = cond-false (leb 10 (followed (drop at m))) _ _ (lt-leb 10 (followed (drop at m)) (omega arith)) in
-    short ∙ elim (cases_lt (length m) (at + (n + 1))) [
-      | inl l ↦
-          cond-true (leb (length (drop at m)) (followed (drop at m))) _ _ (le-leb (length (drop at m)) (followed (drop at m)) (omega (arith, length-drop at m)))
-          ∙ sym (ap (λ (r : Reading (List ℕ)). and_then r (λ gs. fitting (joined gs) (at + n + 1))) (cond-false (leb (at + (n + 1)) (length m)) _ _ (lt-leb (at + (n + 1)) (length m) l)))
-      | inr g ↦
-          cond-false (leb (length (drop at m)) (followed (drop at m))) _ _ (lt-leb (length (drop at m)) (followed (drop at m)) (omega (arith, length-drop at m)))
-          ∙ ap (λ (k : ℕ). fitting (joined (take (k + 1) (drop at m))) (at + k + 1)) (omega arith)
-          ∙ sym (ap (λ (r : Reading (List ℕ)). and_then r (λ gs. fitting (joined gs) (at + n + 1))) (cond-true (leb (at + (n + 1)) (length m)) _ _ (le-leb (at + (n + 1)) (length m) g)))
-    ]
+varint_short m at n e h = let left = length-drop at m in grind (arith, nat_tests)

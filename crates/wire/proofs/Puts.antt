@@ -2,8 +2,7 @@
 use Rattle.std.proofs.Common.{◌≡◌, ℕ, zero, suc, ◌+◌, ◌-◌, ◌/◌, ◌%◌, ◌<◌, ◌≤◌, List, [], ◌∷◌, ◌++◌, length, sym, refl, ap, ◌∙◌, inl, inr, append_assoc, arith}
 use Rattle.std.proofs.lemmas.Bool.{cases_lt}
 use Rattle.wire.specs.Varints.{groups_of, varint_bytes}
-use Rattle.wire.proofs.Groups.{limit}
-use Rattle.wire.proofs.Written.{few, many}
+use Rattle.wire.proofs.Written.{limit, few, many}
 
 -- the last byte of a number of which some are written
 pub groups_last : (k n : ℕ) → n < 128 → groups_of k n ≡ n ∷ []

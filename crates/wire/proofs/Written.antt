@@ -1,11 +1,15 @@
 -- A number that is written as a varint is read back. Assumes nothing.
-use Rattle.std.proofs.Common.{◌≡◌, ℕ, zero, suc, ◌+◌, ◌/◌, ◌%◌, ◌^◌, ◌<◌, ◌≤◌, ltb, leb, List, [], ◌∷◌, ◌++◌, length, take, Ok, sym, ap, ◌∙◌, ap₂, inl, inr, arith, length-append}
+use Rattle.std.proofs.Common.{◌≡◌, ℕ, zero, suc, ◌+◌, ◌*◌, ◌/◌, ◌%◌, ◌^◌, ◌<◌, ◌≤◌, ltb, leb, List, [], ◌∷◌, ◌++◌, length, take, Ok, sym, ap, ◌∙◌, ap₂, inl, inr, arith, length-append}
 use Rattle.std.proofs.Math.Seq.{take-append_seam, drop-append_seam}
 use Rattle.std.proofs.lemmas.Bool.{lt-ltb, le-ltb, lt-leb, cond-true, cond-false, cases_lt}
 use Rattle.wire.specs.declared.varints.Varint.{Varint}
 use Rattle.wire.specs.Readings.{Reading}
 use Rattle.wire.specs.Varints.{followed, joined, fitting, varint, varint_of, varint_from, groups_of, varint_bytes}
-use Rattle.wire.proofs.Groups.{limit}
+
+-- what so many groups of seven bits can say
+abbrev pub limit : ℕ → ℕ
+limit zero = 1
+limit (suc n) = 128 * limit n
 
 -- a number below 128 is one byte, a larger one has its low seven bits before the rest
 pub few : (k n : ℕ) → n < 128 → groups_of (suc k) n ≡ n ∷ []

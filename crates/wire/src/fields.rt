@@ -55,7 +55,8 @@ impl<'a> Rest<'a> {
 #[tactic(auto, unfolding(crate::specs::Fields::field_at))]
 pub fn read_field<'a>(message: &'a [u8], at: usize) -> Result<WireField<'a>, WireFault>
     ensures reads_the_field { shown result ≡ field_at message.now at }
-    ensures moves_on { IfOk result (λ f. (at < f.next) × (f.next ≤ length message.now)) }
+    ensures moves_on { IfOk result (λ f. at < f.next) }
+    ensures stays_inside { IfOk result (λ f. f.next ≤ length message.now) }
 {
     let mut rest = Rest { message, at };
     let key = u32::try_from(rest.take_varint()?).map_err(|_| WireFault::Malformed)?;

@@ -33,7 +33,7 @@ fn join_groups(bytes: &[u8]) -> Option<u64>
 {
     let mut value = 0u64;
     for byte in bytes.iter().rev() {
-        value = value.checked_mul(128)?.checked_add((*byte % 128) as u64)?;
+        value = value.checked_mul(128)?.checked_add(u64::from(*byte % 128))?;
     }
     Some(value)
 }
@@ -59,7 +59,8 @@ impl Rest<'_> {
 pub fn read_varint(message: &[u8], at: usize) -> Result<Varint, WireFault>
     ensures reads_the_varint { result ≡ varint_from message.now at }
     ensures reads_back { (n : ℕ) (xs ys : List ℕ) → n < 2 ^ 64 → at ≡ length xs → message.now ≡ xs ++ (varint_bytes n ++ ys) → result ≡ Ok (varint n (at + length (varint_bytes n))) }
-    ensures moves_on { IfOk result (λ v. (at < v.next) × (v.next ≤ length message.now)) }
+    ensures moves_on { IfOk result (λ v. at < v.next) }
+    ensures stays_inside { IfOk result (λ v. v.next ≤ length message.now) }
 {
     let mut rest = Rest { message, at };
     let value = rest.take_varint()?;

@@ -2,7 +2,7 @@
 use Rattle.std.proofs.Common.{◌≡◌, ◌-◌, ◌<◌, ◌≤◌, ◌++◌}
 use Rattle.arrayvec.specs.ArrayVec.{array_vec_len}
 use Rattle.wire.specs.Varints.{groups_of, varint_bytes}
-use Rattle.wire.proofs.Groups.{limit}
+use Rattle.wire.proofs.Written.{limit}
 use Rattle.wire.proofs.writing.split_groups.Given as goal
 
 abbrev pub invariant-loop-left : goal.invariant-loop-left
