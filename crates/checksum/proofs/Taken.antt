@@ -12,7 +12,10 @@ pub fed_is : (g r : ℕ) (bs : List ℕ) → fed g r bs ≡ fold (λ (r b : ℕ)
 fed_is g r [] = refl
 fed_is g r (b ∷ bs) = fed_is g (steps g 8 (bit_xor r b)) bs
 
--- bytes after those that it was given are given to it too
-pub joins : (s t : Running) (bs : List ℕ) → t ≡ taken_in s bs → (k : Checksum) (xs : List ℕ) → s ≡ running_of k xs → t ≡ running_of k (xs ++ bs)
-joins s t bs is k xs e =
-    is ∙ ap (λ (s : Running). taken_in s bs) e ∙ ap (λ (r : ℕ). record { kind = k; register = r }) (sym (fed_append (generator k) ones xs bs))
+-- bytes after those that a running checksum was given are given to it too
+pub joins : (s : Running) (k : Checksum) (r : ℕ) (bs xs : List ℕ) → r ≡ fed (generator s.kind) s.register bs → s ≡ running_of k xs
+    → record { kind = s.kind; register = r } ≡ running_of k (xs ++ bs)
+joins s k r bs xs fed_is is =
+    ap (λ (n : ℕ). record { kind = s.kind; register = n }) fed_is
+    ∙ ap (λ (s : Running). taken_in s bs) is
+    ∙ ap (λ (n : ℕ). record { kind = k; register = n }) (sym (fed_append (generator k) ones xs bs))

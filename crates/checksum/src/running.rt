@@ -27,18 +27,16 @@ impl Running {
     }
 
     // Takes the next bytes.
-    #[tactic(auto, using(crate::proofs::Taken::fed_is))]
+    #[tactic(auto, using(crate::proofs::Taken::joins))]
     pub fn add(&mut self, bytes: &[u8])
         ensures takes_the_bytes_in { self.new ≡ taken_in self.old bytes.now }
         ensures joins_the_bytes { (k : Checksum) (xs : List ℕ) → self.old ≡ running_of k xs → self.new ≡ running_of k (xs ++ bytes.now) }
     {
-        let kind = self.kind;
-        self.register = bytes
-            .iter()
-            .fold(self.register, |register, byte| kind.feed(register, *byte));
+        self.register = self.kind.feed(self.register, bytes);
     }
 
     // The checksum of all bytes so far: all bits of the register are turned.
+    #[tactic(auto, using(crate::proofs::Turned::sums, crate::proofs::Turned::divides))]
     pub fn finish(&self) -> u32
         ensures turns_the_register { result ≡ finished self.now }
         ensures sums_the_bytes { (k : Checksum) (xs : List ℕ) → self.now ≡ running_of k xs → result ≡ sum_of k xs }

@@ -1,7 +1,7 @@
-// What a register becomes as a byte is fed to it, by a table of what each byte becomes when its eight bits leave.
+// What a register becomes as bytes are fed to it, by a table of what each byte becomes when its eight bits leave.
 ghost use Rattle.std.specs.Prelude.{◌≡◌, bit_xor};
 ghost use Rattle.checksum.specs.Sums.{generator};
-ghost use Rattle.crcmath.specs.Registers.{steps};
+ghost use Rattle.crcmath.specs.Registers.{steps, fed};
 
 use crate::kind::Checksum;
 
@@ -35,10 +35,21 @@ impl Checksum {
     }
 
     // The register after one more byte.
-    pub(crate) fn feed(self, register: u32, byte: u8) -> u32
+    #[tactic(auto, using(crcmath::proofs::Bytes::byte_fed))]
+    fn feed_byte(self, register: u32, byte: u8) -> u32
         ensures { result ≡ steps (generator self) 8 (bit_xor register byte) }
     {
         let low = (register ^ u32::from(byte)) % 256;
         (register >> 8) ^ self.entry(low as u8)
+    }
+
+    // The register after more bytes.
+    #[tactic(auto, using(crate::proofs::Taken::fed_is))]
+    pub(crate) fn feed(self, register: u32, bytes: &[u8]) -> u32
+        ensures { result ≡ fed (generator self) register bytes.now }
+    {
+        bytes
+            .iter()
+            .fold(register, |register, byte| self.feed_byte(register, *byte))
     }
 }
