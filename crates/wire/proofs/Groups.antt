@@ -39,6 +39,11 @@ pub onto_more : (bs : List ℕ) (n : ℕ) → n ≤ onto bs n
 onto_more [] n = omega arith
 onto_more (b ∷ bs) n = omega (arith, onto_more bs n)
 
+pub onto_before : (bs rest : List ℕ) (b n : ℕ) → bs ≡ push rest b → n * 128 ≤ onto bs n
+onto_before bs rest b n is = omega (arith, ap (λ (bs : List ℕ). onto bs n) is, onto-push rest b n, onto_more rest (n * 128 + b % 128))
+
+pub ruleset joining = (onto_none, onto_next, onto_more, onto_before)
+
 -- what a varint is, by how many of its bytes have another after them, counted up to ten
 pub varint_long : (m : List ℕ) (at n : ℕ) → n ≡ min 10 (followed (drop at m)) → n ≡ 10 → varint_from m at ≡ Err Malformed
 varint_long m at n e h = grind (arith, nat_tests)
@@ -46,3 +51,5 @@ varint_long m at n e h = grind (arith, nat_tests)
 pub varint_short : (m : List ℕ) (at n : ℕ) → n ≡ min 10 (followed (drop at m)) → n < 10
     → varint_from m at ≡ and_then (bytes_at m at (n + 1)) (λ gs. fitting (joined gs) (at + n + 1))
 varint_short m at n e h = let left = length-drop at m in grind (arith, nat_tests)
+
+pub ruleset reading = (varint_long, varint_short)

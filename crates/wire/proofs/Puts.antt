@@ -32,3 +32,5 @@ groups_more gs n l g = append_assoc gs ((128 + n % 128) ∷ []) (groups_of (9 - 
 pub bytes_are : (n : ℕ) → groups_of (9 - 0) n ≡ varint_bytes n
 unfolding varint_bytes
 bytes_are n = refl
+
+pub ruleset splitting = (groups_last, groups_left, limit_next, groups_more, bytes_are)

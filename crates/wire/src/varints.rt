@@ -28,6 +28,7 @@ fn count_followed(bytes: &[u8]) -> usize
 }
 
 // The number in the low seven bits of each byte, if it has at most 64 bits.
+#[tactic(auto, using(crate::proofs::Groups::joining))]
 fn join_groups(bytes: &[u8]) -> Option<u64>
     ensures { MatchOption result (2 ^ 64 ≤ joined bytes.now) (λ n. n ≡ joined bytes.now) }
 {
@@ -40,7 +41,7 @@ fn join_groups(bytes: &[u8]) -> Option<u64>
 
 impl Rest<'_> {
     // Takes a varint, by how many of its bytes have another after them.
-    #[tactic(auto, using(crate::proofs::Groups::varint_long, crate::proofs::Groups::varint_short))]
+    #[tactic(auto, using(crate::proofs::Groups::reading))]
     pub fn take_varint(&mut self) -> Result<u64, WireFault>
         ensures reads_the_varint { seen (λ n. varint n self.new.at) result ≡ varint_from self.old.message.now self.old.at }
         ensures same_message { self.new.message ≡ self.old.message }
@@ -55,7 +56,7 @@ impl Rest<'_> {
 }
 
 // The varint at a place; every number of 64 bits that is written in the shortest form is read back.
-#[tactic(auto, using(crate::proofs::Written::reads_back))]
+#[tactic(auto, using(crate::proofs::Written::varint_back))]
 pub fn read_varint(message: &[u8], at: usize) -> Result<Varint, WireFault>
     ensures reads_the_varint { result ≡ varint_from message.now at }
     ensures reads_back { (n : ℕ) (xs ys : List ℕ) → n < 2 ^ 64 → at ≡ length xs → message.now ≡ xs ++ (varint_bytes n ++ ys) → result ≡ Ok (varint n (at + length (varint_bytes n))) }

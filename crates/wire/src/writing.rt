@@ -24,6 +24,7 @@ impl WriteFault {
 }
 
 // The bytes of a number, of which all but the last say that another follows.
+#[tactic(auto, using(crate::proofs::Puts::splitting))]
 fn split_groups(value: u64) -> ArrayVec<u8, MOST_BYTES>
     ensures { result.items ≡ varint_bytes value }
 {
