@@ -1,11 +1,11 @@
 // Fields: a key with number and wire type, and the value that the wire type asks for.
 ghost use Rattle.std.specs.Prelude.{◌≡◌, ◌<◌, ◌≤◌, length, IfOk};
-ghost use Rattle.wire.specs.Readings.{seen};
-ghost use Rattle.wire.specs.Fields.{reached, part_value, value_at, field_at};
-ghost use Rattle.wire.specs.Shown.{shown_value, shown};
+ghost use Rattle.wire.specs.Fields.{part_value, value_at, field_at};
+ghost use Rattle.wire.specs.Shown.{shown_reached, shown};
 
 use crate::faults::WireFault;
 use crate::rest::Rest;
+use crate::varints::read_varint;
 
 // What a field holds; a part is lent from the message, and begins at a place of it.
 #[derive(Clone, Copy, PartialEq, Eq, Debug)]
@@ -25,27 +25,34 @@ pub struct WireField<'a> {
 }
 
 impl<'a> Rest<'a> {
-    // Takes a length, which is a varint, and as many bytes.
-    pub fn take_part(&mut self) -> Result<WireValue<'a>, WireFault>
-        ensures reads_the_part { seen (λ v. reached (shown_value v) self.new.at) result ≡ part_value self.old.message.now self.old.at }
-        ensures same_message { self.new.message ≡ self.old.message }
+    // A length, which is a varint, and as many bytes, with the place after them.
+    fn first_part(&self) -> Result<(WireValue<'a>, usize), WireFault>
+        ensures { shown_reached result ≡ part_value self.now.message.now self.now.at }
     {
-        let count = self.take_varint()?;
-        let place = self.at;
-        let bytes = self.take_bytes(count)?;
-        Ok(WireValue::Part { bytes, place })
+        let len = self.first_varint()?;
+        let place = len.next;
+        let bytes = Rest { at: place, ..*self }.first_bytes(len.value)?;
+        Ok((WireValue::Part { bytes, place }, place + bytes.len()))
     }
 
-    // Takes what a wire type asks for.
-    pub fn take_value(&mut self, wire_type: u32) -> Result<WireValue<'a>, WireFault>
-        ensures reads_the_value { seen (λ v. reached (shown_value v) self.new.at) result ≡ value_at self.old.message.now wire_type self.old.at }
-        ensures same_message { self.new.message ≡ self.old.message }
+    // What a wire type asks for, with the place after it.
+    fn first_value(&self, wire_type: u32) -> Result<(WireValue<'a>, usize), WireFault>
+        ensures { shown_reached result ≡ value_at self.now.message.now wire_type self.now.at }
     {
         match wire_type {
-            0 => Ok(WireValue::Varint(self.take_varint()?)),
-            1 => Ok(WireValue::Fixed64(u64::from_le_bytes(self.take_array()?))),
-            2 => self.take_part(),
-            5 => Ok(WireValue::Fixed32(u32::from_le_bytes(self.take_array()?))),
+            0 => {
+                let varint = self.first_varint()?;
+                Ok((WireValue::Varint(varint.value), varint.next))
+            }
+            1 => {
+                let number = u64::from_le_bytes(self.first_array()?);
+                Ok((WireValue::Fixed64(number), self.at + 8))
+            }
+            2 => self.first_part(),
+            5 => {
+                let number = u32::from_le_bytes(self.first_array()?);
+                Ok((WireValue::Fixed32(number), self.at + 4))
+            }
             _ => Err(WireFault::Malformed),
         }
     }
@@ -58,15 +65,19 @@ pub fn read_field<'a>(message: &'a [u8], at: usize) -> Result<WireField<'a>, Wir
     ensures moves_on { IfOk result (λ f. at < f.next) }
     ensures stays_inside { IfOk result (λ f. f.next ≤ length message.now) }
 {
-    let mut rest = Rest { message, at };
-    let key = u32::try_from(rest.take_varint()?).map_err(|_| WireFault::Malformed)?;
+    let varint = read_varint(message, at)?;
+    let key = u32::try_from(varint.value).map_err(|_| WireFault::Malformed)?;
     if key / 8 == 0 {
         return Err(WireFault::Malformed);
     }
-    let value = rest.take_value(key % 8)?;
+    let rest = Rest {
+        message,
+        at: varint.next,
+    };
+    let (value, next) = rest.first_value(key % 8)?;
     Ok(WireField {
         number: key / 8,
         value,
-        next: rest.at,
+        next,
     })
 }

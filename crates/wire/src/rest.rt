@@ -1,11 +1,11 @@
-// What is left of a message from a place on, and the bytes that are taken from its front.
-ghost use Rattle.std.specs.Prelude.{◌≡◌, ◌+◌, OnOk};
+// What is left of a message from a place on.
+ghost use Rattle.std.specs.Prelude.{◌≡◌};
 ghost use Rattle.wire.specs.Readings.{seen};
 ghost use Rattle.wire.specs.Fields.{bytes_from, bytes_at};
 
 use crate::faults::WireFault;
 
-// A message from a place on, which may lie past its end; what is taken moves the place on.
+// A message from a place on, which may lie past its end.
 #[derive(Clone, Copy, PartialEq, Eq, Debug)]
 pub(crate) struct Rest<'a> {
     pub message: &'a [u8],
@@ -13,35 +13,29 @@ pub(crate) struct Rest<'a> {
 }
 
 impl<'a> Rest<'a> {
-    // The bytes up to the message's end.
+    // All bytes up to the message's end.
     pub fn bytes(&self) -> Result<&'a [u8], WireFault>
         ensures { seen (λ bs. bs.now) result ≡ bytes_from self.now.message.now self.now.at }
     {
         self.message.get(self.at..).ok_or(WireFault::CutShort)
     }
 
-    // Takes as many bytes as are asked for.
-    pub fn take_bytes(&mut self, count: u64) -> Result<&'a [u8], WireFault>
-        ensures takes_the_bytes { seen (λ bs. bs.now) result ≡ bytes_at self.old.message.now self.old.at count }
-        ensures moves_on { OnOk result (self.new.at ≡ self.old.at + count) }
-        ensures same_message { self.new.message ≡ self.old.message }
+    // So many bytes.
+    pub fn first_bytes(&self, count: u64) -> Result<&'a [u8], WireFault>
+        ensures { seen (λ bs. bs.now) result ≡ bytes_at self.now.message.now self.now.at count }
     {
-        let bytes = self
-            .bytes()?
+        self.bytes()?
             .get(..count as usize)
-            .ok_or(WireFault::CutShort)?;
-        self.at += bytes.len();
-        Ok(bytes)
+            .ok_or(WireFault::CutShort)
     }
 
-    // Takes as many bytes as an array has.
-    pub fn take_array<const N: usize>(&mut self) -> Result<[u8; N], WireFault>
-        ensures takes_the_bytes { result ≡ bytes_at self.old.message.now self.old.at N }
-        ensures moves_on { OnOk result (self.new.at ≡ self.old.at + N) }
-        ensures same_message { self.new.message ≡ self.old.message }
+    // As many bytes as an array has.
+    pub fn first_array<const N: usize>(&self) -> Result<[u8; N], WireFault>
+        ensures { result ≡ bytes_at self.now.message.now self.now.at N }
     {
-        let bytes = self.bytes()?.first_chunk().ok_or(WireFault::CutShort)?;
-        self.at += N;
-        Ok(*bytes)
+        self.bytes()?
+            .first_chunk()
+            .copied()
+            .ok_or(WireFault::CutShort)
     }
 }

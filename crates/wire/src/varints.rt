@@ -1,6 +1,5 @@
 // Varints: numbers of up to 64 bits in groups of seven, the lowest group first.
 ghost use Rattle.std.specs.Prelude.{◌≡◌, ℕ, ◌+◌, ◌^◌, ◌<◌, ◌≤◌, min, List, ◌++◌, length, IfOk, MatchOption, Ok};
-ghost use Rattle.wire.specs.Readings.{seen};
 ghost use Rattle.wire.specs.Varints.{followed, joined, varint_from, varint, varint_bytes};
 
 use crate::faults::WireFault;
@@ -40,18 +39,21 @@ fn join_groups(bytes: &[u8]) -> Option<u64>
 }
 
 impl Rest<'_> {
-    // Takes a varint, by how many of its bytes have another after them.
+    // The varint at the place, by how many of its bytes have another after them.
     #[tactic(auto, using(crate::proofs::Groups::reading))]
-    pub fn take_varint(&mut self) -> Result<u64, WireFault>
-        ensures reads_the_varint { seen (λ n. varint n self.new.at) result ≡ varint_from self.old.message.now self.old.at }
-        ensures same_message { self.new.message ≡ self.old.message }
+    pub fn first_varint(&self) -> Result<Varint, WireFault>
+        ensures { result ≡ varint_from self.now.message.now self.now.at }
     {
         let followed = count_followed(self.bytes()?);
         if followed == MOST_BYTES {
             return Err(WireFault::Malformed);
         }
-        let groups = self.take_bytes(followed as u64 + 1)?;
-        join_groups(groups).ok_or(WireFault::Malformed)
+        let groups = self.first_bytes(followed as u64 + 1)?;
+        let value = join_groups(groups).ok_or(WireFault::Malformed)?;
+        Ok(Varint {
+            value,
+            next: self.at + groups.len(),
+        })
     }
 }
 
@@ -63,10 +65,5 @@ pub fn read_varint(message: &[u8], at: usize) -> Result<Varint, WireFault>
     ensures moves_on { IfOk result (λ v. at < v.next) }
     ensures stays_inside { IfOk result (λ v. v.next ≤ length message.now) }
 {
-    let mut rest = Rest { message, at };
-    let value = rest.take_varint()?;
-    Ok(Varint {
-        value,
-        next: rest.at,
-    })
+    Rest { message, at }.first_varint()
 }
