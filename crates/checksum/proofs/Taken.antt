@@ -15,7 +15,7 @@ fed_is g r (b ∷ bs) = fed_is g (steps g 8 (bit_xor r b)) bs
 -- bytes after those that a running checksum was given are given to it too
 pub joins : (s : Running) (k : Checksum) (r : ℕ) (bs xs : List ℕ) → r ≡ fed (generator s.kind) s.register bs → s ≡ running_of k xs
     → record { kind = s.kind; register = r } ≡ running_of k (xs ++ bs)
-joins s k r bs xs fed_is is =
-    ap (λ (n : ℕ). record { kind = s.kind; register = n }) fed_is
+joins s k r bs xs takes is =
+    ap (λ (n : ℕ). record { kind = s.kind; register = n }) takes
     ∙ ap (λ (s : Running). taken_in s bs) is
     ∙ ap (λ (n : ℕ). record { kind = k; register = n }) (sym (fed_append (generator k) ones xs bs))

@@ -15,7 +15,7 @@ macro_rules! table {
     };
 }
 
-// By the polynomial of IEEE 802.3, which is what the highest bit becomes.
+// By the polynomial of IEEE 802.3: the highest bit becomes that polynomial with its bits in reverse order.
 static CRC32: [u32; 256] =
     table!(0; 0x7707_3096, 0xEE0E_612C, 0x076D_C419, 0x0EDB_8832, 0x1DB7_1064, 0x3B6E_20C8, 0x76DC_4190, 0xEDB8_8320);
 
