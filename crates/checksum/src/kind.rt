@@ -5,7 +5,7 @@ ghost use Rattle.checksum.specs.Sums.{polynomial, sum_of};
 
 use crate::running::Running;
 
-#[derive(Clone, Copy)]
+#[derive(Clone, Copy, PartialEq, Eq, Debug)]
 pub enum Checksum {
     Crc32,
     Crc32c,

@@ -2,7 +2,6 @@
 #![tactic(auto)]
 
 mod kind;
-mod register;
 mod running;
 mod tables;
 

@@ -1,11 +1,13 @@
 -- A number that is written as a varint is read back. Assumes nothing.
-use Rattle.std.proofs.Common.{◌≡◌, ℕ, zero, suc, ◌+◌, ◌/◌, ◌%◌, ◌^◌, ◌<◌, ◌≤◌, ltb, leb, List, [], ◌∷◌, ◌++◌, length, take, Ok, sym, ap, ◌∙◌, ap₂, inl, inr, arith, length-append}
-use lib.Seq.{take-append_seam, drop-append_seam}
+use Rattle.std.proofs.Common.{◌≡◌, ℕ, zero, suc, ◌+◌, ◌*◌, ◌/◌, ◌%◌, ◌^◌, ◌<◌, ◌≤◌, ltb, leb, List, [], ◌∷◌, ◌++◌, length, take, Ok, ap, ◌∙◌, ap₂, inl, inr, arith, length-append}
+use Rattle.std.proofs.Math.Seq.{take-append_seam, drop-append_seam}
 use Rattle.std.proofs.lemmas.Bool.{lt-ltb, le-ltb, lt-leb, cond-true, cond-false, cases_lt}
-use Rattle.wire.specs.declared.varints.Varint.{Varint}
-use Rattle.wire.specs.Readings.{Reading}
 use Rattle.wire.specs.Varints.{followed, joined, fitting, varint, varint_of, varint_from, groups_of, varint_bytes}
-use Rattle.wire.proofs.Groups.{limit}
+
+-- what so many groups of seven bits can say
+abbrev pub limit : ℕ → ℕ
+limit zero = 1
+limit (suc n) = 128 * limit n
 
 -- a number below 128 is one byte, a larger one has its low seven bits before the rest
 pub few : (k n : ℕ) → n < 128 → groups_of (suc k) n ≡ n ∷ []
@@ -71,8 +73,3 @@ bytes_back at n ys h =
 -- the same anywhere in a message
 pub varint_back : (n : ℕ) (xs ys : List ℕ) → n < 2 ^ 64 → varint_from (xs ++ (varint_bytes n ++ ys)) (length xs) ≡ Ok (varint n (length xs + length (varint_bytes n)))
 varint_back n xs ys h = ap (varint_of (length xs)) (drop-append_seam xs (varint_bytes n ++ ys)) ∙ bytes_back (length xs) n ys h
-
--- the same of a message and a place that are known by equations
-pub reads_back : (m : List ℕ) (at : ℕ) (r : Reading Varint) → r ≡ varint_from m at
-    → (n : ℕ) (xs ys : List ℕ) → n < 2 ^ 64 → at ≡ length xs → m ≡ xs ++ (varint_bytes n ++ ys) → r ≡ Ok (varint n (at + length (varint_bytes n)))
-reads_back m at r e n xs ys h i is = e ∙ ap₂ varint_from is i ∙ varint_back n xs ys h ∙ ap (λ (k : ℕ). Ok (varint n (k + length (varint_bytes n)))) (sym i)

@@ -44,6 +44,10 @@ pub record Found : Type 0 where
 abbrev pub found : Field → ℕ → Found
 found f n = record { field = f; next = n }
 
+-- the bytes of a message from a place on
+abbrev pub bytes_from : List ℕ → ℕ → Reading (List ℕ)
+bytes_from m at = cond (nat_le at (length m)) (Ok (drop at m)) (Err CutShort)
+
 -- so many bytes of a message from a place on
 abbrev pub bytes_at : List ℕ → ℕ → ℕ → Reading (List ℕ)
 bytes_at m at n = cond (nat_le (at + n) (length m)) (Ok (take n (drop at m))) (Err CutShort)

@@ -10,6 +10,7 @@
 
 mod faults;
 mod fields;
+mod rest;
 mod varints;
 mod writing;
 

@@ -1,10 +1,13 @@
 // Varints as they are written, in the shortest form.
-ghost use Rattle.std.specs.Prelude.{◌≡◌, ◌+◌, ◌≤◌, length};
+ghost use Rattle.std.specs.Prelude.{◌≡◌};
 ghost use Rattle.wire.specs.Faults.{write_number_of};
 ghost use Rattle.wire.specs.Varints.{varint_bytes};
-ghost use Rattle.wire.specs.Writes.{overwritten, place_after, bytes_after};
+ghost use Rattle.wire.specs.Writes.{place_after, bytes_after};
 
-#[derive(Clone, Copy)]
+use crate::varints::MOST_BYTES;
+use arrayvec::ArrayVec;
+
+#[derive(Clone, Copy, PartialEq, Eq, Debug)]
 pub enum WriteFault {
     // The buffer ends before the varint does.
     Short,
@@ -20,33 +23,19 @@ impl WriteFault {
     }
 }
 
-// How many bytes the varint of a number has.
-fn count_groups(value: u64) -> usize
-    ensures counts { result ≡ length (varint_bytes value) }
-    ensures at_most_ten { result ≤ 10 }
+// The bytes of a number, of which all but the last say that another follows.
+#[tactic(auto, using(crate::proofs::Puts::splitting))]
+fn split_groups(value: u64) -> ArrayVec<u8, MOST_BYTES>
+    ensures { result.items ≡ varint_bytes value }
 {
+    let mut groups = ArrayVec::new();
     let mut left = value;
-    let mut done = 0;
     while left >= 128 {
+        groups.push(128 + (left % 128) as u8);
         left /= 128;
-        done += 1;
     }
-    done + 1
-}
-
-// Writes the varint where there is room for it.
-fn put_groups(value: u64, out: &mut [u8], at: usize)
-    requires { at + length (varint_bytes value) ≤ length out.old }
-    ensures { out.new ≡ overwritten out.old at (varint_bytes value) }
-{
-    let mut left = value;
-    let mut done = 0;
-    while left >= 128 {
-        out[at + done] = 128 + (left % 128) as u8;
-        left /= 128;
-        done += 1;
-    }
-    out[at + done] = left as u8;
+    groups.push(left as u8);
+    groups
 }
 
 // Writes the varint of a number at a place, and says the place after it; a buffer with no room is left as it was.
@@ -54,10 +43,11 @@ pub fn write_varint(value: u64, out: &mut [u8], at: usize) -> Result<usize, Writ
     ensures says_the_place_after { result ≡ place_after value out.old at }
     ensures writes_the_varint { out.new ≡ bytes_after value out.old at }
 {
-    let count = count_groups(value);
-    if count > out.len() || at > out.len() - count {
-        return Err(WriteFault::Short);
-    }
-    put_groups(value, out, at);
-    Ok(at + count)
+    let groups = split_groups(value);
+    let end = at
+        .checked_add(groups.len())
+        .filter(|end| *end <= out.len())
+        .ok_or(WriteFault::Short)?;
+    out[at..end].copy_from_slice(&groups);
+    Ok(end)
 }

@@ -1,21 +1,16 @@
--- A byte either has another after it, or is the last.
-use Rattle.std.proofs.Common.{◌≡◌, ◌+◌, ◌<◌, length, drop, arith}
-use Rattle.wire.specs.Varints.{followed}
-use Rattle.wire.proofs.Groups.{followed_end, followed_last, followed_more}
+-- The bytes that the chain counts are those at the front that have another after them.
+use Rattle.std.proofs.Common.{◌∙◌, leb, take, rules, tests}
+use Rattle.std.proofs.lemmas.Iterator.{YieldsList-from_slice, YieldsList-from_take}
+use Rattle.std.proofs.lemmas.Iterator.Consumers.{YieldsList-at, count_from_yields_List}
+use Rattle.std.proofs.lemmas.Iterator.Search.{YieldsList-from_take_while}
+use Rattle.std.proofs.lemmas.List.Folds.{length-prefix_len}
+use Rattle.wire.proofs.Groups.{followed_front}
 use Rattle.wire.proofs.varints.count_followed.Goals as goal
 
-pub returns-then-at-n : goal.returns-then-at-n
-returns-then-at-n c =
-    let none : followed (drop (c.args.at + c.loop-n.n) c.args.message.now) ≡ 0 =
-    elim c.then-at-n.branch [
-      | goal.then-at-n-via-then-at-n w ↦ followed_end c.args.message.now (c.args.at + c.loop-n.n) (omega (arith, w.if-at-n.true))
-      | goal.then-at-n-via-else-at-n+then-message-at-lt128 w ↦ followed_last c.args.message.now (c.args.at + c.loop-n.n) (omega (arith, w.if-at-n.false)) w.if-message-at-lt128.true
-    ]
-    in record { counts = omega arith; stays_inside = omega arith }
-
-pub loop-n-preserved : goal.loop-n-preserved
-loop-n-preserved c =
-    let inside : c.args.at + c.loop-n.n < length c.args.message.now = omega arith in
-    let after : c.args.at + c.loop-n.n + 1 ≡ c.args.at + (c.loop-n.n + 1) = omega arith in
-    let more = rw after at (followed_more c.args.message.now (c.args.at + c.loop-n.n) inside c.if-message-at-lt128.false) in
-    (omega arith, omega (arith, more, c.loop-n.invariant.1))
+pub returns : goal.returns
+returns c =
+    let bytes = c.args.bytes.now in
+    count_from_yields_List c.take_while.result _ c.count.ensures.ran
+    (YieldsList-from_take_while _ (leb 128) (YieldsList-at c.take_while.ensures.source (YieldsList-from_take 10 (YieldsList-at c.take.ensures.source (YieldsList-from_slice bytes (cc))) c.take.ensures.count)) c.take_while.ensures.closure c.take_while.ensures.done (λ x b q k. search (rules, tests)))
+    ∙ length-prefix_len (leb 128) (take 10 bytes)
+    ∙ followed_front 10 bytes

@@ -4,7 +4,7 @@ use Rattle.crcmath.specs.Registers.{ieee, castagnoli, reversed, step, steps}
 use Rattle.crcmath.proofs.Bytes.{table_for, entry_is}
 use Rattle.checksum.specs.declared.kind.Checksum.{Checksum}
 use Rattle.checksum.specs.Sums.{generator}
-use Rattle.checksum.proofs.tables.entry.Goals as goal
+use Rattle.checksum.proofs.kind.Checksum.entry.Goals as goal
 
 pub returns-in-Crc32 : goal.returns-in-Crc32
 unfolding reversed step steps table_for
