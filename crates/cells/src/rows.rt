@@ -1,9 +1,11 @@
 // How many rows a block has, and what a row has of a range.
-ghost use Rattle.std.specs.Prelude.{◌≡◌, ℕ, ◌+◌, ◌/◌, ◌%◌, ◌^◌, ◌<◌, ◌≤◌, List, length, if◌then◌else◌, nat_eq};
-ghost use Rattle.dealing.specs.Places.{row_bytes, rows_of};
+ghost use Rattle.std.specs.Prelude.{◌≡◌, ℕ, ◌+◌, ◌^◌, ◌<◌, ◌≤◌, List, length};
+ghost use Rattle.dealing.specs.Places.{row_bytes};
 ghost use Rattle.dealing.specs.Laws.{Least, RowsAreBlock, PartOfBlock, PartsAreRange};
 ghost use Rattle.cells.specs.Found.{range_of};
+ghost use Rattle.cells.specs.Striped.{dealt_rows};
 
+use crate::block::StripedBlock;
 use crate::places::row_size;
 use policy::EcSchema;
 
@@ -14,22 +16,15 @@ pub struct RowRange {
     pub len: usize,
 }
 
-// How many stretches of `size` bytes hold `len` bytes: the last of them may be begun only.
-fn stretches(len: u64, size: u64) -> u64
-    requires { 0 < size }
-    ensures { result ≡ len / size + (if nat_eq (len % size) 0 then 0 else 1) }
-{
-    let whole = len / size;
-    if len % size == 0 { whole } else { whole + 1 }
-}
-
-// How many rows hold the block.
-pub fn row_count(schema: EcSchema, block_len: u64) -> u64
-    ensures value { result ≡ rows_of schema.data_units schema.cell_size block_len }
-    ensures least { Least schema.data_units schema.cell_size block_len result }
-    ensures rows_are_block { (block : List ℕ) → length block ≡ block_len → RowsAreBlock schema.data_units schema.cell_size block result }
-{
-    stretches(block_len, row_size(schema) as u64)
+impl StripedBlock {
+    // How many rows hold the block; the last may be begun only.
+    pub fn row_count(self) -> u64
+        ensures value { result ≡ dealt_rows self }
+        ensures least { Least self.schema.data_units self.schema.cell_size self.len result }
+        ensures rows_are_block { (block : List ℕ) → length block ≡ self.len → RowsAreBlock self.schema.data_units self.schema.cell_size block result }
+    {
+        self.len.div_ceil(row_size(self.schema) as u64)
+    }
 }
 
 // What the range of `len` bytes from `offset` has in the row, of `size` bytes a row.
