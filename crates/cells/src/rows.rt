@@ -10,7 +10,8 @@ use crate::places::row_size;
 use policy::EcSchema;
 
 // Bytes of a row's data cells, counted from the row's first.
-#[derive(Clone, Copy)]
+// Stays: (d) a row with nothing of the range has length 0, and copying no bytes needs no case; an `Option` adds one, a `Range` makes each promise say `end - start`.
+#[derive(Clone, Copy, PartialEq, Eq, Debug)]
 pub struct RowRange {
     pub start: usize,
     pub len: usize,
@@ -21,7 +22,8 @@ impl StripedBlock {
     pub fn row_count(self) -> u64
         ensures value { result ≡ dealt_rows self }
         ensures least { Least self.schema.data_units self.schema.cell_size self.len result }
-        ensures rows_are_block { (block : List ℕ) → length block ≡ self.len → RowsAreBlock self.schema.data_units self.schema.cell_size block result }
+        ensures rows_are_block { (block : List ℕ) → length block ≡ self.len
+            → RowsAreBlock self.schema.data_units self.schema.cell_size block result }
     {
         self.len.div_ceil(row_size(self.schema) as u64)
     }
@@ -48,8 +50,10 @@ fn part_of_row(size: usize, row: u64, offset: u64, len: u64) -> RowRange
 pub fn row_range(schema: EcSchema, row: u64, offset: u64, len: u64) -> RowRange
     ensures value { result ≡ range_of (row_bytes schema.data_units schema.cell_size) row offset len }
     ensures in_the_row { result.start + result.len ≤ row_bytes schema.data_units schema.cell_size }
-    ensures part_of_block { (block : List ℕ) → offset + len ≤ length block → PartOfBlock schema.data_units schema.cell_size block row offset result.start result.len }
-    ensures parts_are_range { (block : List ℕ) → offset + len ≤ length block → PartsAreRange schema.data_units schema.cell_size block offset len }
+    ensures part_of_block { (block : List ℕ) → offset + len ≤ length block
+        → PartOfBlock schema.data_units schema.cell_size block row offset result.start result.len }
+    ensures parts_are_range { (block : List ℕ) → offset + len ≤ length block
+        → PartsAreRange schema.data_units schema.cell_size block offset len }
 {
     part_of_row(row_size(schema), row, offset, len)
 }

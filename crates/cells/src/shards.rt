@@ -1,9 +1,8 @@
 // How long shards and their cells are.
 ghost use Rattle.std.specs.Prelude.{◌≡◌, ℕ, ◌+◌, ◌-◌, ◌*◌, ◌^◌, ◌<◌, min, List, length};
 ghost use Rattle.dealing.specs.Places.{like_shard_of, data_len_of, cell_len_of, row_place};
-ghost use Rattle.dealing.specs.Dealt.{own_bytes, shard_bytes};
 ghost use Rattle.dealing.specs.Laws.{CellOfShard, FromShard};
-ghost use Rattle.cells.specs.Striped.{dealt_shard_len, dealt_own_len};
+ghost use Rattle.cells.specs.Striped.{dealt_shard_len, dealt_own_len, dealt_shard, dealt_own};
 
 use crate::block::StripedBlock;
 use crate::places::row_size;
@@ -31,8 +30,12 @@ impl StripedBlock {
     // How many bytes a shard of the block has; there is no shard past the last parity shard.
     pub fn max_offset(self, index: usize) -> u64
         ensures value { result ≡ dealt_shard_len self index }
-        ensures length_of_shard { (block : List ℕ) → length block ≡ self.len → index < self.schema.data_units + self.schema.parity_units → result ≡ length (shard_bytes self.schema.data_units self.schema.cell_size block (like_shard_of self.schema.data_units index)) }
-        ensures bytes_of_block { (block : List ℕ) → length block ≡ self.len → index < self.schema.data_units → (o : ℕ) → o < result → FromShard self.schema.data_units self.schema.cell_size block index o }
+        ensures length_of_shard { (block : List ℕ) → length block ≡ self.len
+            → index < self.schema.data_units + self.schema.parity_units
+            → result ≡ length (dealt_shard self block index) }
+        ensures bytes_of_block { (block : List ℕ) → length block ≡ self.len → index < self.schema.data_units
+            → (o : ℕ) → o < result
+            → FromShard self.schema.data_units self.schema.cell_size block index o }
     {
         if index < self.schema.data_units + self.schema.parity_units {
             self.data_len(like_shard(self.schema, index))
@@ -54,8 +57,11 @@ impl StripedBlock {
     // How many bytes of its own the cell of a shard has in a row: none past the shard's end.
     pub fn own_len(self, index: usize, row: u64) -> usize
         ensures value { result ≡ dealt_own_len self index row }
-        ensures length_of_own { (block : List ℕ) → length block ≡ self.len → index < self.schema.data_units + self.schema.parity_units → result ≡ length (own_bytes self.schema.cell_size block (row * self.schema.data_units + like_shard_of self.schema.data_units index)) }
-        ensures cell_of_shard { (block : List ℕ) → length block ≡ self.len → index < self.schema.data_units → CellOfShard self.schema.data_units self.schema.cell_size block index row }
+        ensures length_of_own { (block : List ℕ) → length block ≡ self.len
+            → index < self.schema.data_units + self.schema.parity_units
+            → result ≡ length (dealt_own self block index row) }
+        ensures cell_of_shard { (block : List ℕ) → length block ≡ self.len → index < self.schema.data_units
+            → CellOfShard self.schema.data_units self.schema.cell_size block index row }
         ensures of_its_shard { result ≡ min self.schema.cell_size (dealt_shard_len self index - row_place self.schema.cell_size row) }
     {
         if index < self.schema.data_units + self.schema.parity_units {
