@@ -1,9 +1,10 @@
 // Why a block is not put together again.
-ghost use Rattle.std.specs.Prelude.{◌≡◌};
-ghost use Rattle.rebuild.specs.Faults.{number_of};
+ghost use Rattle.std.specs.Prelude.{◌≡◌, IsSome, Some};
+ghost use Rattle.rebuild.specs.Faults.{number_of, fault_in_row};
 ghost use Rattle.rebuild.specs.declared.fault.RebuildFault.TheVariants.{Memory};
 
 use std::alloc::AllocError;
+use stripe::StripeFault;
 
 #[derive(Clone, Copy, PartialEq, Eq, Debug)]
 pub enum RebuildFault {
@@ -26,6 +27,18 @@ impl RebuildFault {
             RebuildFault::TooFew { row: _, cells: _ } => 7,
             RebuildFault::Legacy { row: _ } => 8,
             RebuildFault::Memory => 9,
+        }
+    }
+
+    // Why the block is refused where a row of it is, for the cells that are there.
+    pub(crate) fn of_row(row: u64, fault: StripeFault) -> RebuildFault
+        requires for_its_cells { IsSome (fault_in_row row fault) }
+        ensures { fault_in_row row fault ≡ Some result }
+    {
+        match fault {
+            StripeFault::TooFew { cells } => RebuildFault::TooFew { row, cells },
+            StripeFault::Legacy => RebuildFault::Legacy { row },
+            StripeFault::Short | StripeFault::Codec => unreachable!(),
         }
     }
 }
