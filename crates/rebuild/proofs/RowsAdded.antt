@@ -1,11 +1,11 @@
 -- What one more row leaves of the block that is put together. Assumes nothing.
-use Rattle.std.proofs.Common.{◌≡◌, ℕ, ◌+◌, ◌-◌, ◌*◌, ◌^◌, ◌<◌, ◌≤◌, min, List, [], ◌++◌, length, get_or, take, Err, Option, sym, ap, ◌∙◌, subst, arith, below_more}
+use Rattle.std.proofs.Common.{◌≡◌, ℕ, ◌+◌, ◌-◌, ◌*◌, ◌^◌, ◌<◌, ◌≤◌, min, List, ◌++◌, length, get_or, take, Err, Option, sym, ap, ◌∙◌, subst, arith, below_more}
 use Rattle.std.proofs.lemmas.Nat.{mul-le}
 use Rattle.std.proofs.lemmas.List.{length-append, length-take, get_or_append_left, get_or-append_right, get_or-take}
 use Rattle.policy.specs.declared.schema.EcSchema.{EcSchema}
 use Rattle.stripe.specs.Coded.{byte_at, units, RowRoom}
 use Rattle.dealing.specs.Places.{row_bytes, part_len}
-use Rattle.dealing.proofs.Numbers.{rows_least, cell_ends, row_after}
+use Rattle.dealing.proofs.Numbers.{cell_ends, row_after}
 use Rattle.rebuild.specs.declared.fault.RebuildFault.{RebuildFault}
 use Rattle.rebuild.specs.declared.fault.RebuildFault.TheVariants.{Block, TooFew, Legacy, Memory}
 use Rattle.rebuild.specs.Rebuilt.{RowFrom, RowIn, rows_in, there_in, bytes_in, EnoughIn, TooFewIn, LegacyIn, RowRebuilt, Rebuilt}
@@ -19,9 +19,6 @@ module _ (e : EcSchema) (n : ℕ) (held : ℕ → Option (List ℕ)) where
   pub record RowsTo (block : List ℕ) (k : ℕ) : Type 0 where
     pub long : length block ≡ begun k
     pub each : (q : ℕ) → q < k → RowIn e n held block q
-
-  pub rows_none : (block : List ℕ) → block ≡ [] → RowsTo block 0
-  rows_none block e = record { long = ap length e ∙ omega arith; each = λ q h. absurd (omega arith) }
 
   -- a byte of a row before row k stands among the bytes so far
   before_row : (q k c j : ℕ) → q < k → c < e.data_units → j < e.cell_size → (q * e.data_units + c) * e.cell_size + j < k * (e.data_units * e.cell_size)
@@ -66,12 +63,6 @@ module _ (e : EcSchema) (n : ℕ) (held : ℕ → Option (List ℕ)) where
     each = below_more (λ q. RowIn e n held (block ++ take m buffer) q) k
         (λ q h. kept block (take m buffer) k q to.long h (to.each q h)) (added block buffer k m to.long part from);
   }
-
-  -- all rows have all bytes
-  pub rows_all : (block : List ℕ) (k : ℕ) → k ≡ rows_in e n → RowsTo block k → length block ≡ n
-  rows_all block k h to =
-      let most = (rows_least e.data_units e.cell_size n e.some_data e.some_bytes).holds in
-      to.long ∙ ap begun h ∙ omega (arith, most)
 
   -- the first row that is refused is refused for the block
   pub row_refused : (block : List ℕ) (k : ℕ) (x : ℕ → ℕ → ℕ) (f : RebuildFault) → n ≤ 2 ^ 40 → k < rows_in e n → RowsTo block k → RowRebuilt e n held k x (Err f) → Rebuilt e n held (Err f)

@@ -41,6 +41,7 @@ impl<'a> HeldShards<'a> {
             → byte_at self.entry.block.schema.cell_size buffer.new i j ≡ bytes_held self.entry row i j }
     {
         let size = self.block.schema.cell_size;
+        // Stays: (c) tried `chunks_exact_mut(size).enumerate()`: after it a proof knows the buffer's length and none of its bytes.
         for i in 0..self.block.schema.data_units + self.block.schema.parity_units {
             let from = i * size;
             lay(&mut buffer[from..from + size], self.own_bytes(row, i));
@@ -54,9 +55,8 @@ impl<'a> HeldShards<'a> {
     {
         let there = self.cells_there(row);
         self.lay_row(row, buffer);
-        recover(self.block.schema, &there, buffer).map_err(|fault| RebuildFault::of_row(
-            row, fault,
-        ))?;
+        let made = recover(self.block.schema, &there, buffer);
+        made.map_err(|fault| RebuildFault::of_row(row, fault))?;
         Ok(())
     }
 }
