@@ -17,6 +17,7 @@ fn like_shard(schema: EcSchema, index: usize) -> usize
 }
 
 impl StripedBlock {
+    // How many bytes a data shard has: a cell for each whole row, and its part of the row that is begun.
     fn data_len(self, index: usize) -> u64
         requires { index < self.schema.data_units }
         ensures { result ≡ data_len_of self.schema.data_units self.schema.cell_size self.len index }
