@@ -2,7 +2,7 @@
 use policy::EcSchema;
 
 // A block of `len` bytes under a scheme: any length goes with any scheme.
-#[derive(Clone, Copy)]
+#[derive(Clone, Copy, PartialEq, Eq, Debug)]
 pub struct StripedBlock {
     pub schema: EcSchema,
     pub len: u64,

@@ -21,9 +21,9 @@ impl StripedBlock {
     // How many rows hold the block; the last may be begun only.
     pub fn row_count(self) -> u64
         ensures value { result ≡ dealt_rows self }
-        ensures least { Least self.schema.data_units self.schema.cell_size self.len result }
-        ensures rows_are_block { (block : List ℕ) → length block ≡ self.len
-            → RowsAreBlock self.schema.data_units self.schema.cell_size block result }
+        ensures least { let e = self.schema in Least e.data_units e.cell_size self.len result }
+        ensures rows_are_block { let e = self.schema in (block : List ℕ) → length block ≡ self.len
+            → RowsAreBlock e.data_units e.cell_size block result }
     {
         self.len.div_ceil(row_size(self.schema) as u64)
     }

@@ -31,14 +31,12 @@ impl StripedBlock {
     // How many bytes a shard of the block has; there is no shard past the last parity shard.
     pub fn max_offset(self, index: usize) -> u64
         ensures value { result ≡ dealt_shard_len self index }
-        ensures length_of_shard { (block : List ℕ) → length block ≡ self.len
-            → index < self.schema.data_units + self.schema.parity_units
-            → result ≡ length (dealt_shard self block index) }
-        ensures bytes_of_block { (block : List ℕ) → length block ≡ self.len → index < self.schema.data_units
-            → (o : ℕ) → o < result
-            → FromShard self.schema.data_units self.schema.cell_size block index o }
+        ensures length_of_shard { let e = self.schema in (block : List ℕ) → length block ≡ self.len
+            → index < e.data_units + e.parity_units → result ≡ length (dealt_shard self block index) }
+        ensures bytes_of_block { let e = self.schema in (block : List ℕ) → length block ≡ self.len
+            → index < e.data_units → (o : ℕ) → o < result → FromShard e.data_units e.cell_size block index o }
     {
-        if index < self.schema.data_units + self.schema.parity_units {
+        if index < self.schema.units() {
             self.data_len(like_shard(self.schema, index))
         } else {
             0
@@ -58,17 +56,16 @@ impl StripedBlock {
     // How many bytes of its own the cell of a shard has in a row: none past the shard's end.
     pub fn own_len(self, index: usize, row: u64) -> usize
         ensures value { result ≡ dealt_own_len self index row }
-        ensures length_of_own { (block : List ℕ) → length block ≡ self.len
-            → index < self.schema.data_units + self.schema.parity_units
-            → result ≡ length (dealt_own self block index row) }
-        ensures cell_of_shard { (block : List ℕ) → length block ≡ self.len → index < self.schema.data_units
-            → CellOfShard self.schema.data_units self.schema.cell_size block index row }
-        ensures of_its_shard { result ≡ min self.schema.cell_size (dealt_shard_len self index - row_place self.schema.cell_size row) }
+        ensures length_of_own { let e = self.schema in (block : List ℕ) → length block ≡ self.len
+            → index < e.data_units + e.parity_units → result ≡ length (dealt_own self block index row) }
+        ensures cell_of_shard { let e = self.schema in (block : List ℕ) → length block ≡ self.len
+            → index < e.data_units → CellOfShard e.data_units e.cell_size block index row }
+        ensures of_its_shard { let s = self.schema.cell_size in
+            result ≡ min s (dealt_shard_len self index - row_place s row) }
     {
-        if index < self.schema.data_units + self.schema.parity_units {
-            let cell = row as u128 * self.schema.data_units as u128
-                + like_shard(self.schema, index) as u128;
-            self.cell_len(cell)
+        if index < self.schema.units() {
+            let first = row as u128 * self.schema.data_units as u128;
+            self.cell_len(first + like_shard(self.schema, index) as u128)
         } else {
             0
         }

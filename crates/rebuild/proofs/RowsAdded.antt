@@ -1,11 +1,11 @@
 -- What one more row leaves of the block that is put together. Assumes nothing.
-use Rattle.std.proofs.Common.{◌≡◌, ℕ, ◌+◌, ◌-◌, ◌*◌, ◌^◌, ◌<◌, ◌≤◌, min, List, ◌++◌, length, get_or, take, Err, Option, sym, ap, ◌∙◌, subst, arith, below_more}
+use Rattle.std.proofs.Common.{◌≡◌, ℕ, ◌+◌, ◌-◌, ◌*◌, ◌^◌, ◌<◌, ◌≤◌, min, List, ◌++◌, length, get_or, take, Ok, Err, Option, sym, ap, ◌∙◌, subst, arith, below_more}
 use Rattle.std.proofs.lemmas.Nat.{mul-le}
 use Rattle.std.proofs.lemmas.List.{length-append, length-take, get_or_append_left, get_or-append_right, get_or-take}
 use Rattle.policy.specs.declared.schema.EcSchema.{EcSchema}
 use Rattle.stripe.specs.Coded.{byte_at, units, RowRoom}
 use Rattle.dealing.specs.Places.{row_bytes, part_len}
-use Rattle.dealing.proofs.Numbers.{cell_ends, row_after}
+use Rattle.dealing.proofs.Numbers.{rows_least, cell_ends, row_after}
 use Rattle.rebuild.specs.declared.fault.RebuildFault.{RebuildFault}
 use Rattle.rebuild.specs.declared.fault.RebuildFault.TheVariants.{Block, TooFew, Legacy, Memory}
 use Rattle.rebuild.specs.Rebuilt.{RowFrom, RowIn, rows_in, there_in, bytes_in, EnoughIn, TooFewIn, LegacyIn, RowRebuilt, Rebuilt}
@@ -63,6 +63,12 @@ module _ (e : EcSchema) (n : ℕ) (held : ℕ → Option (List ℕ)) where
     each = below_more (λ q. RowIn e n held (block ++ take m buffer) q) k
         (λ q h. kept block (take m buffer) k q to.long h (to.each q h)) (added block buffer k m to.long part from);
   }
+
+  -- all rows are the block made again
+  pub rows_all : (block : List ℕ) (k : ℕ) → n ≤ 2 ^ 40 → k ≡ rows_in e n → RowsTo block k → Rebuilt e n held (Ok block)
+  rows_all block k small h to =
+      let most = (rows_least e.data_units e.cell_size n e.some_data e.some_bytes).holds in
+      (small, to.long ∙ ap begun h ∙ omega (arith, most), λ q l. to.each q (omega arith))
 
   -- the first row that is refused is refused for the block
   pub row_refused : (block : List ℕ) (k : ℕ) (x : ℕ → ℕ → ℕ) (f : RebuildFault) → n ≤ 2 ^ 40 → k < rows_in e n → RowsTo block k → RowRebuilt e n held k x (Err f) → Rebuilt e n held (Err f)

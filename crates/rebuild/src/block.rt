@@ -1,7 +1,5 @@
 // A block put together again, row by row.
-ghost use Rattle.std.specs.Prelude.{◌≡◌, ◌^◌, ◌≤◌, []};
-ghost use Rattle.stripe.specs.Coded.{RowRoom};
-ghost use Rattle.rebuild.specs.Rebuilt.{answered, answered_in};
+ghost use Rattle.rebuild.specs.Rebuilt.{answered};
 ghost use Rattle.rebuild.specs.Shards.{RebuiltFrom, IsBlockDealt};
 
 use crate::fault::RebuildFault;
@@ -13,22 +11,7 @@ use std::alloc::Global;
 const GREATEST_BLOCK: u64 = 1_099_511_627_776;
 
 impl HeldShards<'_> {
-    // Makes row after row in the buffer, and adds to the block what belongs to it.
-    fn add_rows(self, buffer: &mut [u8], block: &mut Vec<u8>) -> Result<(), RebuildFault>
-        requires short { self.block.len ≤ 2 ^ 40 }
-        requires room { RowRoom self.block.schema buffer.old }
-        requires none_yet { block.old.items ≡ [] }
-        ensures { RebuiltFrom self.entry (answered_in block.new.items result) }
-    {
-        for row in 0..self.block.row_count() {
-            self.rebuild_row(row, buffer)?;
-            let len = row_range(self.block.schema, row, 0, self.block.len).len;
-            block.extend_from_slice(&buffer[..len])?;
-        }
-        Ok(())
-    }
-
-    // Puts the block together again from the shards that are held whole.
+    // Puts the block together again from the shards that are held whole: makes row after row, and adds what belongs to it.
     pub fn rebuild(self, heap: Global) -> Result<Vec<u8>, RebuildFault>
         ensures from_the_shards_held { RebuiltFrom self.entry (answered result) }
         ensures the_block_dealt { IsBlockDealt self.entry (answered result) }
@@ -37,10 +20,15 @@ impl HeldShards<'_> {
         if len > GREATEST_BLOCK {
             return Err(RebuildFault::Block);
         }
-        let cells = schema.data_units + schema.parity_units;
-        let mut buffer = vec![in heap; 0u8; cells * schema.cell_size]?;
+        let mut cells = vec![in heap; 0u8; schema.units() * schema.cell_size]?;
+        let buffer = cells.as_mut_slice();
         let mut block = Vec::with_capacity(heap, len as usize)?;
-        self.add_rows(buffer.as_mut_slice(), &mut block)?;
+        // Stays: (d) rows are counted here, and stand in no slice.
+        for row in 0..self.block.row_count() {
+            self.rebuild_row(row, buffer)?;
+            let part = row_range(schema, row, 0, len);
+            block.extend_from_slice(&buffer[..part.len])?;
+        }
         Ok(block)
     }
 }

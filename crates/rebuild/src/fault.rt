@@ -19,6 +19,7 @@ pub enum RebuildFault {
 }
 
 impl RebuildFault {
+    // Stays: (d) an enum of which a case holds a value is not cast to a number.
     pub fn number(self) -> u8
         ensures { result ≡ number_of self }
     {
@@ -43,6 +44,7 @@ impl RebuildFault {
     }
 }
 
+// Stays: (d) a derived `From` has no contract, and what `rebuild` promises names this refusal.
 impl From<AllocError> for RebuildFault {
     ghost from_gives = { λ _ r. r ≡ Memory };
 

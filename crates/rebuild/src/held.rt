@@ -8,7 +8,7 @@ use cells::StripedBlock;
 use std::array;
 
 // A block and those of its shards that are held, by their index; one past the slice's end is not held.
-#[derive(Clone, Copy)]
+#[derive(Clone, Copy, PartialEq, Eq, Debug)]
 pub struct HeldShards<'a> {
     pub block: StripedBlock,
     pub shards: &'a [Option<&'a [u8]>],
@@ -34,8 +34,7 @@ impl<'a> HeldShards<'a> {
     fn is_there(self, row: u64, index: usize) -> bool
         ensures { result ≡ there_held self.entry row index }
     {
-        let schema = self.block.schema;
-        index < schema.data_units + schema.parity_units
+        index < self.block.schema.units()
             && (self.is_whole(index) || self.block.own_len(index, row) == 0)
     }
 

@@ -37,12 +37,12 @@ impl<'a> HeldShards<'a> {
     // Lays the cells of the row into the buffer: zeros for those that are not there.
     fn lay_row(self, row: u64, buffer: &mut [u8])
         requires { RowRoom self.block.schema buffer.old }
-        ensures { (i j : ℕ) → i < units self.entry.block.schema → j < self.entry.block.schema.cell_size
-            → byte_at self.entry.block.schema.cell_size buffer.new i j ≡ bytes_held self.entry row i j }
+        ensures { let e = self.entry.block.schema in (i j : ℕ) → i < units e → j < e.cell_size
+            → byte_at e.cell_size buffer.new i j ≡ bytes_held self.entry row i j }
     {
         let size = self.block.schema.cell_size;
         // Stays: (c) tried `chunks_exact_mut(size).enumerate()`: after it a proof knows the buffer's length and none of its bytes.
-        for i in 0..self.block.schema.data_units + self.block.schema.parity_units {
+        for i in 0..self.block.schema.units() {
             let from = i * size;
             lay(&mut buffer[from..from + size], self.own_bytes(row, i));
         }
