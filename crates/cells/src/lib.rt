@@ -9,12 +9,13 @@
 //   bytes      12        10         8        12        12
 #![tactic(auto)]
 
+mod block;
 mod places;
 mod rows;
 mod shards;
 
+pub use block::StripedBlock;
 pub use places::{
     Location, cell_for_offset, locate, offset_for_row, row_for_cell, row_size, shard_for_cell,
 };
-pub use rows::{RowRange, row_count, row_range};
-pub use shards::{max_offset, own_len};
+pub use rows::{RowRange, row_range};

@@ -6,7 +6,7 @@ ghost use Rattle.cells.specs.Found.{location_of};
 
 use policy::EcSchema;
 
-#[derive(Clone, Copy)]
+#[derive(Clone, Copy, PartialEq, Eq, Debug)]
 pub struct Location {
     pub cell: u64,
     pub row: u64,
@@ -59,7 +59,9 @@ fn place_in_shard(schema: EcSchema, offset: u64) -> u64
 // The one place of a byte of the block.
 pub fn locate(schema: EcSchema, offset: u64) -> Location
     ensures value { result ≡ location_of schema.data_units schema.cell_size offset }
-    ensures placed { (block : List ℕ) → offset < length block → Placed schema.data_units schema.cell_size block offset result.cell result.row result.shard result.offset_in_shard result.offset_in_cell }
+    ensures placed { (block : List ℕ) → offset < length block
+        → Placed schema.data_units schema.cell_size block offset
+        result.cell result.row result.shard result.offset_in_shard result.offset_in_cell }
     ensures found_back { byte_of schema.data_units schema.cell_size result.shard result.offset_in_shard ≡ offset }
 {
     let cell = cell_for_offset(schema, offset);

@@ -1,35 +1,32 @@
 // How many rows a block has, and what a row has of a range.
-ghost use Rattle.std.specs.Prelude.{◌≡◌, ℕ, ◌+◌, ◌/◌, ◌%◌, ◌^◌, ◌<◌, ◌≤◌, List, length, if◌then◌else◌, nat_eq};
-ghost use Rattle.dealing.specs.Places.{row_bytes, rows_of};
+ghost use Rattle.std.specs.Prelude.{◌≡◌, ℕ, ◌+◌, ◌^◌, ◌<◌, ◌≤◌, List, length};
+ghost use Rattle.dealing.specs.Places.{row_bytes};
 ghost use Rattle.dealing.specs.Laws.{Least, RowsAreBlock, PartOfBlock, PartsAreRange};
 ghost use Rattle.cells.specs.Found.{range_of};
+ghost use Rattle.cells.specs.Striped.{dealt_rows};
 
+use crate::block::StripedBlock;
 use crate::places::row_size;
 use policy::EcSchema;
 
 // Bytes of a row's data cells, counted from the row's first.
-#[derive(Clone, Copy)]
+// Stays: (d) a row with nothing of the range has length 0, and copying no bytes needs no case; an `Option` adds one, a `Range` makes each promise say `end - start`.
+#[derive(Clone, Copy, PartialEq, Eq, Debug)]
 pub struct RowRange {
     pub start: usize,
     pub len: usize,
 }
 
-// How many stretches of `size` bytes hold `len` bytes: the last of them may be begun only.
-fn stretches(len: u64, size: u64) -> u64
-    requires { 0 < size }
-    ensures { result ≡ len / size + (if nat_eq (len % size) 0 then 0 else 1) }
-{
-    let whole = len / size;
-    if len % size == 0 { whole } else { whole + 1 }
-}
-
-// How many rows hold the block.
-pub fn row_count(schema: EcSchema, block_len: u64) -> u64
-    ensures value { result ≡ rows_of schema.data_units schema.cell_size block_len }
-    ensures least { Least schema.data_units schema.cell_size block_len result }
-    ensures rows_are_block { (block : List ℕ) → length block ≡ block_len → RowsAreBlock schema.data_units schema.cell_size block result }
-{
-    stretches(block_len, row_size(schema) as u64)
+impl StripedBlock {
+    // How many rows hold the block; the last may be begun only.
+    pub fn row_count(self) -> u64
+        ensures value { result ≡ dealt_rows self }
+        ensures least { let e = self.schema in Least e.data_units e.cell_size self.len result }
+        ensures rows_are_block { let e = self.schema in (block : List ℕ) → length block ≡ self.len
+            → RowsAreBlock e.data_units e.cell_size block result }
+    {
+        self.len.div_ceil(row_size(self.schema) as u64)
+    }
 }
 
 // What the range of `len` bytes from `offset` has in the row, of `size` bytes a row.
@@ -53,8 +50,10 @@ fn part_of_row(size: usize, row: u64, offset: u64, len: u64) -> RowRange
 pub fn row_range(schema: EcSchema, row: u64, offset: u64, len: u64) -> RowRange
     ensures value { result ≡ range_of (row_bytes schema.data_units schema.cell_size) row offset len }
     ensures in_the_row { result.start + result.len ≤ row_bytes schema.data_units schema.cell_size }
-    ensures part_of_block { (block : List ℕ) → offset + len ≤ length block → PartOfBlock schema.data_units schema.cell_size block row offset result.start result.len }
-    ensures parts_are_range { (block : List ℕ) → offset + len ≤ length block → PartsAreRange schema.data_units schema.cell_size block offset len }
+    ensures part_of_block { (block : List ℕ) → offset + len ≤ length block
+        → PartOfBlock schema.data_units schema.cell_size block row offset result.start result.len }
+    ensures parts_are_range { (block : List ℕ) → offset + len ≤ length block
+        → PartsAreRange schema.data_units schema.cell_size block offset len }
 {
     part_of_row(row_size(schema), row, offset, len)
 }

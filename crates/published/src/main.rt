@@ -4,7 +4,7 @@
 ghost use Rattle.std.specs.Prelude.{◌≡◌};
 ghost use Rattle.published.specs.Published.{PublishedValues, count_of};
 
-use cells::{max_offset, row_range};
+use cells::{StripedBlock, row_range};
 use checksum::Checksum;
 use policy::{Codec, EcSchema};
 use std::io;
@@ -36,8 +36,9 @@ fn print_cells(rt: &HostRuntime) -> io::Result<()> {
     let Ok(schema) = EcSchema::new(Codec::Rs, 3, 2, 4) else {
         return Ok(());
     };
+    let block = StripedBlock { schema, len: 30 };
     for i in 0..5 {
-        let len = max_offset(schema, i, 30);
+        let len = block.max_offset(i);
         println!(rt; "shard {i} of a block of 30 bytes has {len}")?;
     }
     for k in 0..3 {

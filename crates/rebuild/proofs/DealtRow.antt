@@ -1,6 +1,6 @@
 -- A row that was dealt from a block is the row that is made again. Assumes nothing.
 use Rattle.std.proofs.Common.{◌≡◌, ℕ, zero, suc, ◌+◌, ◌*◌, ◌/◌, ◌%◌, ◌<◌, ◌≤◌, Bool, true, cond, ◌&&◌, ◌||◌, eqb, ltb, List, [], length, get_or, is_some, Some, None, Option, unwrap_or, sym, refl, ap, ◌∙◌, ap₂, ⊎_elim, arith}
-use lib.Bits.{bit_xor}
+use Rattle.std.specs.Int.Bits.{bit_xor}
 use Rattle.std.proofs.lemmas.Nat.{div-mul-add, mod-mul-add}
 use Rattle.std.proofs.lemmas.List.{get_or_past}
 use Rattle.std.proofs.lemmas.Bool.{cases_lt, lt-ltb, le-ltb, eqb-true, and_parts, cond-true, cond-false}
@@ -24,7 +24,7 @@ use Rattle.dealing.proofs.Shards.{shard_at, length_shard}
 use Rattle.rebuild.specs.Held.{whole_at, cell_there, cell_byte}
 use Rattle.rebuild.specs.Rebuilt.{RowFrom}
 use Rattle.rebuild.specs.Dealt.{AllBytes, HeldDealt}
-use Rattle.rebuild.proofs.Laying.{whole_length}
+use Rattle.rebuild.proofs.OwnBytes.{whole_length}
 
 -- ---- zeros
 xors_zeros : (n : ℕ) (f : ℕ → ℕ) → ((c : ℕ) → c < n → f c ≡ 0) → xors n f ≡ 0
@@ -55,14 +55,14 @@ dealt_data RsLegacy d v w r b l = cond-true (ltb r d) (v r) (w r) (lt-ltb r d l)
 
 dealt_parity : (codec : Codec) (d : ℕ) (v w : ℕ → ℕ) (r : ℕ) → d ≤ r → ((codec ≡ RsLegacy → ⊥) → w r ≡ coded codec d r v) → w r ≡ dealt_row codec d v w r
 unfolding dealt_row
-dealt_parity Rs d v w r l h = h (λ e. let z : ◌≡◌ {A = ℕ} 0 1 = cc in omega arith)
-dealt_parity Xor d v w r l h = h (λ e. let z : ◌≡◌ {A = ℕ} 0 1 = cc in omega arith)
+dealt_parity Rs d v w r l h = h (λ e. grind arith)
+dealt_parity Xor d v w r l h = h (λ e. grind arith)
 dealt_parity RsLegacy d v w r l h = sym (cond-false (ltb r d) (v r) (w r) (le-ltb r d l))
 
 dealt_follows : (codec : Codec) (d n : ℕ) (v w : ℕ → ℕ) → Bytes d v → FollowsCode codec d n (dealt_row codec d v w)
 unfolding dealt_row
-dealt_follows Rs d n v w b r l = coded_local Rs d r (λ e. let z : ◌≡◌ {A = ℕ} 0 1 = cc in omega arith) v (dealt_row Rs d v w) (λ c o. sym (dealt_data Rs d v w c b o))
-dealt_follows Xor d n v w b r l = coded_local Xor d r (λ e. let z : ◌≡◌ {A = ℕ} 0 1 = cc in omega arith) v (dealt_row Xor d v w) (λ c o. sym (dealt_data Xor d v w c b o))
+dealt_follows Rs d n v w b r l = coded_local Rs d r (λ e. grind arith) v (dealt_row Rs d v w) (λ c o. sym (dealt_data Rs d v w c b o))
+dealt_follows Xor d n v w b r l = coded_local Xor d r (λ e. grind arith) v (dealt_row Xor d v w) (λ c o. sym (dealt_data Xor d v w c b o))
 dealt_follows RsLegacy d n v w b r l = refl
 
 -- ---- shards held whole

@@ -1,4 +1,4 @@
-mod Laying
+mod OwnBytes
 mod RowMade
 mod RowsAdded
 mod DealtRow

@@ -1,5 +1,5 @@
 -- What one more row leaves of the block that is put together. Assumes nothing.
-use Rattle.std.proofs.Common.{◌≡◌, ℕ, ◌+◌, ◌-◌, ◌*◌, ◌^◌, ◌<◌, ◌≤◌, min, List, [], ◌++◌, length, get_or, take, Err, Option, sym, ap, ◌∙◌, subst, arith, below_more}
+use Rattle.std.proofs.Common.{◌≡◌, ℕ, ◌+◌, ◌-◌, ◌*◌, ◌^◌, ◌<◌, ◌≤◌, min, List, ◌++◌, length, get_or, take, Ok, Err, Option, sym, ap, ◌∙◌, subst, arith, below_more}
 use Rattle.std.proofs.lemmas.Nat.{mul-le}
 use Rattle.std.proofs.lemmas.List.{length-append, length-take, get_or_append_left, get_or-append_right, get_or-take}
 use Rattle.policy.specs.declared.schema.EcSchema.{EcSchema}
@@ -19,9 +19,6 @@ module _ (e : EcSchema) (n : ℕ) (held : ℕ → Option (List ℕ)) where
   pub record RowsTo (block : List ℕ) (k : ℕ) : Type 0 where
     pub long : length block ≡ begun k
     pub each : (q : ℕ) → q < k → RowIn e n held block q
-
-  pub rows_none : (block : List ℕ) → block ≡ [] → RowsTo block 0
-  rows_none block e = record { long = ap length e ∙ omega arith; each = λ q h. absurd (omega arith) }
 
   -- a byte of a row before row k stands among the bytes so far
   before_row : (q k c j : ℕ) → q < k → c < e.data_units → j < e.cell_size → (q * e.data_units + c) * e.cell_size + j < k * (e.data_units * e.cell_size)
@@ -67,11 +64,11 @@ module _ (e : EcSchema) (n : ℕ) (held : ℕ → Option (List ℕ)) where
         (λ q h. kept block (take m buffer) k q to.long h (to.each q h)) (added block buffer k m to.long part from);
   }
 
-  -- all rows have all bytes
-  pub rows_all : (block : List ℕ) (k : ℕ) → k ≡ rows_in e n → RowsTo block k → length block ≡ n
-  rows_all block k h to =
+  -- all rows are the block made again
+  pub rows_all : (block : List ℕ) (k : ℕ) → n ≤ 2 ^ 40 → k ≡ rows_in e n → RowsTo block k → Rebuilt e n held (Ok block)
+  rows_all block k small h to =
       let most = (rows_least e.data_units e.cell_size n e.some_data e.some_bytes).holds in
-      to.long ∙ ap begun h ∙ omega (arith, most)
+      (small, to.long ∙ ap begun h ∙ omega (arith, most), λ q l. to.each q (omega arith))
 
   -- the first row that is refused is refused for the block
   pub row_refused : (block : List ℕ) (k : ℕ) (x : ℕ → ℕ → ℕ) (f : RebuildFault) → n ≤ 2 ^ 40 → k < rows_in e n → RowsTo block k → RowRebuilt e n held k x (Err f) → Rebuilt e n held (Err f)

@@ -2,3 +2,4 @@ pub mod Faults
 pub mod Held
 pub mod Rebuilt
 pub mod Dealt
+pub mod Shards

@@ -73,11 +73,6 @@ abbrev pub answered : Result (Vec ℕ) RebuildFault → Result (List ℕ) Rebuil
 answered (Ok block) = Ok (vec_items block)
 answered (Err f) = Err f
 
--- the same where the block is a buffer
-abbrev pub answered_in : List ℕ → Result (Unit {0}) RebuildFault → Result (List ℕ) RebuildFault
-answered_in block (Ok u) = Ok block
-answered_in block (Err f) = Err f
-
 -- one row made again in a buffer whose cells are x after the call
 abbrev pub RowRebuilt : EcSchema → ℕ → (ℕ → Option (List ℕ)) → ℕ → (ℕ → ℕ → ℕ) → Result (Unit {0}) RebuildFault → Type 0
 RowRebuilt e n held k x (Ok u) = RowFrom e.codec e.data_units (units e) e.cell_size (there_in e n held k) (bytes_in e n held k) x

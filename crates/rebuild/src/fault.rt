@@ -1,9 +1,10 @@
 // Why a block is not put together again.
-ghost use Rattle.std.specs.Prelude.{◌≡◌};
-ghost use Rattle.rebuild.specs.Faults.{number_of};
+ghost use Rattle.std.specs.Prelude.{◌≡◌, IsSome, Some};
+ghost use Rattle.rebuild.specs.Faults.{number_of, fault_in_row};
 ghost use Rattle.rebuild.specs.declared.fault.RebuildFault.TheVariants.{Memory};
 
 use std::alloc::AllocError;
+use stripe::StripeFault;
 
 #[derive(Clone, Copy, PartialEq, Eq, Debug)]
 pub enum RebuildFault {
@@ -18,6 +19,7 @@ pub enum RebuildFault {
 }
 
 impl RebuildFault {
+    // Stays: (d) an enum of which a case holds a value is not cast to a number.
     pub fn number(self) -> u8
         ensures { result ≡ number_of self }
     {
@@ -28,8 +30,21 @@ impl RebuildFault {
             RebuildFault::Memory => 9,
         }
     }
+
+    // Why the block is refused where a row of it is, for the cells that are there.
+    pub(crate) fn of_row(row: u64, fault: StripeFault) -> RebuildFault
+        requires for_its_cells { IsSome (fault_in_row row fault) }
+        ensures { fault_in_row row fault ≡ Some result }
+    {
+        match fault {
+            StripeFault::TooFew { cells } => RebuildFault::TooFew { row, cells },
+            StripeFault::Legacy => RebuildFault::Legacy { row },
+            StripeFault::Short | StripeFault::Codec => unreachable!(),
+        }
+    }
 }
 
+// Stays: (d) a derived `From` has no contract, and what `rebuild` promises names this refusal.
 impl From<AllocError> for RebuildFault {
     ghost from_gives = { λ _ r. r ≡ Memory };
 

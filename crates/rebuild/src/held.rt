@@ -1,73 +1,48 @@
-// The shards that are held whole, and the cells of a row that are there.
-ghost use Rattle.std.specs.Prelude.{◌≡◌, ℕ, false, length, is_some};
+// The shards that are held of a block, and the cells of a row that are there.
+ghost use Rattle.std.specs.Prelude.{◌≡◌, ℕ, length, is_some};
 ghost use Rattle.std.specs.Option.{option_map};
 ghost use Rattle.stripe.specs.There.{flag};
-ghost use Rattle.rebuild.specs.Held.{held_in, whole_at, cell_there};
+ghost use Rattle.rebuild.specs.Shards.{whole_held, there_held};
 
-use cells::{max_offset, own_len};
-use policy::EcSchema;
+use cells::StripedBlock;
+use std::array;
 
-// A shard as it is given; none past the slice's end.
-fn given<'a>(shards: &[Option<&'a [u8]>], index: usize) -> Option<&'a [u8]>
-    ensures { option_map (λ x. x.now) result ≡ held_in shards.now index }
-{
-    if index < shards.len() {
-        shards[index]
-    } else {
-        None
+// A block and those of its shards that are held, by their index; one past the slice's end is not held.
+#[derive(Clone, Copy, PartialEq, Eq, Debug)]
+pub struct HeldShards<'a> {
+    pub block: StripedBlock,
+    pub shards: &'a [Option<&'a [u8]>],
+}
+
+impl<'a> HeldShards<'a> {
+    // A shard that is held whole.
+    pub(crate) fn whole_shard(self, index: usize) -> Option<&'a [u8]>
+        ensures { option_map (λ x. x.now) result ≡ whole_held self.entry index }
+    {
+        let given = self.shards.get(index).copied().flatten();
+        given.filter(|bytes| bytes.len() as u64 == self.block.max_offset(index))
     }
-}
 
-// A shard that is held whole.
-pub(crate) fn whole_shard<'a>(
-    schema: EcSchema,
-    block_len: u64,
-    shards: &[Option<&'a [u8]>],
-    index: usize,
-) -> Option<&'a [u8]>
-    ensures { option_map (λ x. x.now) result ≡ whole_at schema.data_units schema.parity_units schema.cell_size block_len (held_in shards.now) index }
-{
-    match given(shards, index) {
-        Some(bytes) if bytes.len() as u64 == max_offset(schema, index, block_len) => Some(bytes),
-        _ => None,
+    // Whether a shard is held whole: it is given and has just the length that a shard of that index has.
+    pub fn is_whole(self, index: usize) -> bool
+        ensures { result ≡ is_some (whole_held self.entry index) }
+    {
+        self.whole_shard(index).is_some()
     }
-}
 
-// Whether a shard is held whole: it is given and has just the length that a shard of that index has.
-pub fn is_whole(schema: EcSchema, block_len: u64, shards: &[Option<&[u8]>], index: usize) -> bool
-    ensures { result ≡ is_some (whole_at schema.data_units schema.parity_units schema.cell_size block_len (held_in shards.now) index) }
-{
-    whole_shard(schema, block_len, shards, index).is_some()
-}
-
-// Whether the cell of a shard is there: the shard is held whole, or the cell is zeros alone.
-fn is_there(
-    schema: EcSchema,
-    block_len: u64,
-    shards: &[Option<&[u8]>],
-    row: u64,
-    index: usize,
-) -> bool
-    ensures { result ≡ cell_there schema.data_units schema.parity_units schema.cell_size block_len (held_in shards.now) row index }
-{
-    index < schema.data_units + schema.parity_units
-        && (is_whole(schema, block_len, shards, index)
-            || own_len(schema, index, row, block_len) == 0)
-}
-
-// Which cells of a row are there: those of shards held whole, and those with no bytes of their own.
-pub fn cells_there(
-    schema: EcSchema,
-    block_len: u64,
-    shards: &[Option<&[u8]>],
-    row: u64,
-) -> [bool; 16]
-    ensures sixteen { length result ≡ 16 }
-    ensures each_flag { (i : ℕ) → flag result i ≡ cell_there schema.data_units schema.parity_units schema.cell_size block_len (held_in shards.now) row i }
-{
-    let mut there = [false; 16];
-    for i in 0..schema.data_units + schema.parity_units {
-        there[i] = is_there(schema, block_len, shards, row, i);
+    // Whether the cell of a shard is there: the shard is held whole, or the cell is zeros alone.
+    fn is_there(self, row: u64, index: usize) -> bool
+        ensures { result ≡ there_held self.entry row index }
+    {
+        index < self.block.schema.units()
+            && (self.is_whole(index) || self.block.own_len(index, row) == 0)
     }
-    there
+
+    // Which cells of a row are there: those of shards held whole, and those with no bytes of their own.
+    pub fn cells_there(self, row: u64) -> [bool; 16]
+        ensures sixteen { length result ≡ 16 }
+        ensures each_flag { (i : ℕ) → flag result i ≡ there_held self.entry row i }
+    {
+        array::from_fn(|index| self.is_there(row, index))
+    }
 }

@@ -13,6 +13,5 @@ mod fault;
 mod held;
 mod row;
 
-pub use block::rebuild;
 pub use fault::RebuildFault;
-pub use held::{cells_there, is_whole};
+pub use held::HeldShards;

@@ -1,94 +1,62 @@
 // One row of a block, made again in a buffer.
-ghost use Rattle.std.specs.Prelude.{◌≡◌, ℕ, ◌+◌, ◌*◌, ◌<◌, ◌≤◌, ◌⊎◌, length, slice_index};
-ghost use Rattle.matrix.specs.Grids.{RowIs};
+ghost use Rattle.std.specs.Prelude.{◌≡◌, ℕ, ◌<◌, ◌≤◌, length, slice_index};
 ghost use Rattle.stripe.specs.Coded.{byte_at, units, RowRoom};
-ghost use Rattle.rebuild.specs.Held.{held_in};
-ghost use Rattle.rebuild.specs.Rebuilt.{bytes_in, RowRebuilt};
+ghost use Rattle.rebuild.specs.Shards.{bytes_held, RowRebuiltFrom};
 
 use crate::fault::RebuildFault;
-use crate::held::{cells_there, whole_shard};
-use cells::own_len;
-use policy::EcSchema;
-use stripe::{StripeFault, recover};
+use crate::held::HeldShards;
+use stripe::recover;
 
-// The bytes of its own that a cell has in a shard held whole; none where the shard is not.
-fn own_bytes<'a>(
-    schema: EcSchema,
-    block_len: u64,
-    shards: &[Option<&'a [u8]>],
-    row: u64,
-    index: usize,
-) -> &'a [u8]
-    ensures within { length result.now ≤ schema.cell_size }
-    ensures bytes { (j : ℕ) → j < schema.cell_size → slice_index result.now j ≡ bytes_in schema block_len (held_in shards.now) row index j }
+// Lays bytes into the cell, and zeros after them.
+fn lay(cell: &mut [u8], bytes: &[u8])
+    requires { length bytes.now ≤ length cell.old }
+    ensures { (j : ℕ) → slice_index cell.new j ≡ slice_index bytes.now j }
 {
-    let Some(bytes) = whole_shard(schema, block_len, shards, index) else {
-        return &[];
-    };
-    let own = own_len(schema, index, row, block_len);
-    if own == 0 {
-        return &[];
+    cell.fill(0);
+    cell[..bytes.len()].copy_from_slice(bytes);
+}
+
+impl<'a> HeldShards<'a> {
+    // The bytes of its own that a cell has in a shard held whole; none where the shard is not.
+    fn own_bytes(self, row: u64, index: usize) -> &'a [u8]
+        ensures within { length result.now ≤ self.entry.block.schema.cell_size }
+        ensures bytes { (j : ℕ) → j < self.entry.block.schema.cell_size
+            → slice_index result.now j ≡ bytes_held self.entry row index j }
+    {
+        let own = self.block.own_len(index, row);
+        match self.whole_shard(index) {
+            // a cell with bytes of its own begins within its shard
+            Some(bytes) if own > 0 => {
+                let from = row as usize * self.block.schema.cell_size;
+                &bytes[from..from + own]
+            }
+            _ => &[],
+        }
     }
-    let from = row as usize * schema.cell_size;
-    &bytes[from..from + own]
-}
 
-// Lays bytes into the buffer from a place on, and zeros up to `size` bytes in all.
-fn lay(buffer: &mut [u8], at: usize, size: usize, bytes: &[u8])
-    requires { (at + size ≤ length buffer.old) × (length bytes.now ≤ size) }
-    ensures here { (j : ℕ) → j < size → slice_index buffer.new (at + j) ≡ slice_index bytes.now j }
-    ensures elsewhere { (t : ℕ) → (t < at) ⊎ (at + size ≤ t) → slice_index buffer.new t ≡ slice_index buffer.old t }
-{
-    buffer[at..at + size].fill(0);
-    buffer[at..at + bytes.len()].copy_from_slice(bytes);
-}
-
-// Lays a cell of the row into its place.
-fn lay_cell(
-    schema: EcSchema,
-    block_len: u64,
-    shards: &[Option<&[u8]>],
-    row: u64,
-    index: usize,
-    buffer: &mut [u8],
-)
-    requires { (index < units schema) × (RowRoom schema buffer.old) }
-    ensures { RowIs schema.cell_size index (bytes_in schema block_len (held_in shards.now) row index) (byte_at schema.cell_size buffer.old) (byte_at schema.cell_size buffer.new) }
-{
-    let size = schema.cell_size;
-    let bytes = own_bytes(schema, block_len, shards, row, index);
-    lay(buffer, index * size, size, bytes);
-}
-
-// Lays the cells of the row into the buffer: zeros for those that are not there.
-fn lay_row(schema: EcSchema, block_len: u64, shards: &[Option<&[u8]>], row: u64, buffer: &mut [u8])
-    requires { RowRoom schema buffer.old }
-    ensures { (i j : ℕ) → i < units schema → j < schema.cell_size → byte_at schema.cell_size buffer.new i j ≡ bytes_in schema block_len (held_in shards.now) row i j }
-{
-    for i in 0..schema.data_units + schema.parity_units {
-        lay_cell(schema, block_len, shards, row, i, buffer);
+    // Lays the cells of the row into the buffer: zeros for those that are not there.
+    fn lay_row(self, row: u64, buffer: &mut [u8])
+        requires { RowRoom self.block.schema buffer.old }
+        ensures { let e = self.entry.block.schema in (i j : ℕ) → i < units e → j < e.cell_size
+            → byte_at e.cell_size buffer.new i j ≡ bytes_held self.entry row i j }
+    {
+        let size = self.block.schema.cell_size;
+        // Stays: (c) tried `chunks_exact_mut(size).enumerate()`: after it a proof knows the buffer's length and none of its bytes.
+        for i in 0..self.block.schema.units() {
+            let from = i * size;
+            lay(&mut buffer[from..from + size], self.own_bytes(row, i));
+        }
     }
-}
 
-// Makes the row again in the buffer, its data cells first.
-pub(crate) fn rebuild_row(
-    schema: EcSchema,
-    block_len: u64,
-    shards: &[Option<&[u8]>],
-    row: u64,
-    buffer: &mut [u8],
-) -> Result<(), RebuildFault>
-    requires { RowRoom schema buffer.old }
-    ensures { RowRebuilt schema block_len (held_in shards.now) row (byte_at schema.cell_size buffer.new) result }
-{
-    let there = cells_there(schema, block_len, shards, row);
-    lay_row(schema, block_len, shards, row, buffer);
-    match recover(schema, &there, buffer) {
-        Ok(_) => Ok(()),
-        Err(fault) => match fault {
-            StripeFault::TooFew { cells } => Err(RebuildFault::TooFew { row, cells }),
-            StripeFault::Legacy => Err(RebuildFault::Legacy { row }),
-            StripeFault::Short | StripeFault::Codec => unreachable(),
-        },
+    // Makes the row again in the buffer, its data cells first.
+    pub(crate) fn rebuild_row(self, row: u64, buffer: &mut [u8]) -> Result<(), RebuildFault>
+        requires { RowRoom self.block.schema buffer.old }
+        ensures { RowRebuiltFrom self.entry row (byte_at self.entry.block.schema.cell_size buffer.new) result }
+    {
+        let there = self.cells_there(row);
+        self.lay_row(row, buffer);
+        let made = recover(self.block.schema, &there, buffer);
+        made.map_err(|fault| RebuildFault::of_row(row, fault))?;
+        Ok(())
     }
 }

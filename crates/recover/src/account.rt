@@ -1,9 +1,8 @@
 // The account of a block that was put together again.
-use crate::request::Request;
-use cells::{max_offset, row_count};
+use cells::StripedBlock;
 use checksum::Checksum;
 use policy::{Codec, EcSchema};
-use rebuild::cells_there;
+use rebuild::HeldShards;
 use std::io;
 
 fn codec_name(codec: Codec) -> &'static str {
@@ -14,17 +13,17 @@ fn codec_name(codec: Codec) -> &'static str {
     }
 }
 
-fn print_scheme(rt: &HostRuntime, request: &Request) -> io::Result<()> {
+fn print_scheme(rt: &HostRuntime, block: StripedBlock) -> io::Result<()> {
     let EcSchema {
         codec,
         data_units,
         parity_units,
         cell_size,
         ..
-    } = request.schema;
+    } = block.schema;
     let name = codec_name(codec);
-    let len = request.block_len;
-    let rows = row_count(request.schema, len);
+    let len = block.len;
+    let rows = block.row_count();
     println!(rt;
         "scheme: {name}, {data_units} data and {parity_units} parity units, cells of {cell_size} bytes"
     )?;
@@ -73,23 +72,17 @@ fn print_row(rt: &HostRuntime, schema: EcSchema, row: u64, there: &[bool; 16]) -
 
 pub(crate) fn print_account(
     rt: &HostRuntime,
-    request: &Request,
-    shards: &[Option<&[u8]>],
-    block: &[u8],
+    held: HeldShards<'_>,
+    bytes: &[u8],
 ) -> io::Result<()> {
-    let schema = request.schema;
-    print_scheme(rt, request)?;
-    for (i, shard) in shards.iter().enumerate() {
-        print_shard(rt, i, max_offset(schema, i, request.block_len), *shard)?;
+    let block = held.block;
+    print_scheme(rt, block)?;
+    for (i, shard) in held.shards.iter().enumerate() {
+        print_shard(rt, i, block.max_offset(i), *shard)?;
     }
-    for row in 0..row_count(schema, request.block_len) {
-        print_row(
-            rt,
-            schema,
-            row,
-            &cells_there(schema, request.block_len, shards, row),
-        )?;
+    for row in 0..block.row_count() {
+        print_row(rt, block.schema, row, &held.cells_there(row))?;
     }
-    let digest = Checksum::Crc32.of(block);
+    let digest = Checksum::Crc32.of(bytes);
     println!(rt; "digest: CRC-32 {digest:08x}")
 }

@@ -9,7 +9,8 @@ mod shards;
 mod tests;
 
 use account::print_account;
-use rebuild::rebuild;
+use cells::StripedBlock;
+use rebuild::HeldShards;
 use refusal::Refusal;
 use request::{Request, read_request};
 use shards::read_shards;
@@ -37,13 +38,15 @@ the block. What cannot be done is refused by number and in words; nothing is wri
 fn run(rt: &HostRuntime, request: &Request) -> Result<(), Refusal> {
     let files = read_shards(rt, request)?;
     let views = files.views(rt.alloc())?;
-    let block = rebuild(
-        rt.alloc(),
-        request.schema,
-        request.block_len,
-        views.as_slice(),
-    )?;
-    print_account(rt, request, views.as_slice(), block.as_slice())?;
+    let held = HeldShards {
+        block: StripedBlock {
+            schema: request.schema,
+            len: request.block_len,
+        },
+        shards: views.as_slice(),
+    };
+    let block = held.rebuild(rt.alloc())?;
+    print_account(rt, held, block.as_slice())?;
     fs::write(rt, request.out.as_str(), block.as_slice())?;
     Ok(())
 }

@@ -4,7 +4,7 @@ use crate::hex::begin_word;
 use crate::matrices::{write_inverse, write_matrix};
 use crate::question::{Question, Units, read_question};
 use crate::stripes::{write_data, write_parity};
-use cells::max_offset;
+use cells::StripedBlock;
 use policy::{Codec, EcSchema};
 use std::alloc::Global;
 use std::fmt::Write;
@@ -33,9 +33,13 @@ fn write_lengths(
     block_len: u64,
 ) -> Result<(), Fault> {
     let schema = EcSchema::new(Codec::Rs, units.data, units.parity, cell_size)?;
+    let block = StripedBlock {
+        schema,
+        len: block_len,
+    };
     for i in 0..schema.data_units + schema.parity_units {
         begin_word(out)?;
-        let len = max_offset(schema, i, block_len);
+        let len = block.max_offset(i);
         write!(out, "{len}")?;
     }
     Ok(())
