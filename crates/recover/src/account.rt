@@ -14,7 +14,7 @@ fn codec_name(codec: Codec) -> &'static str {
     }
 }
 
-fn print_scheme(rt: &HostRuntime, request: &Request) -> io::Result<()> {
+fn print_scheme(rt: &HostRuntime, request: &Request<'_>) -> io::Result<()> {
     let EcSchema {
         codec,
         data_units,
@@ -33,16 +33,10 @@ fn print_scheme(rt: &HostRuntime, request: &Request) -> io::Result<()> {
 
 // A shard's length, and whether it is there.
 fn print_shard(rt: &HostRuntime, i: usize, len: u64, shard: Option<&[u8]>) -> io::Result<()> {
-    match shard {
+    match shard.map(|bytes| bytes.len()) {
         None => println!(rt; "shard {i}: {len} bytes, missing"),
-        Some(bytes) => {
-            let found = bytes.len();
-            if found as u64 == len {
-                println!(rt; "shard {i}: {len} bytes, there")
-            } else {
-                println!(rt; "shard {i}: {len} bytes, left out: its file has {found}")
-            }
-        }
+        Some(found) if found as u64 == len => println!(rt; "shard {i}: {len} bytes, there"),
+        Some(found) => println!(rt; "shard {i}: {len} bytes, left out: its file has {found}"),
     }
 }
 
@@ -50,44 +44,40 @@ fn print_shard(rt: &HostRuntime, i: usize, len: u64, shard: Option<&[u8]>) -> io
 fn print_row(rt: &HostRuntime, schema: EcSchema, row: u64, there: &[bool; 16]) -> io::Result<()> {
     let d = schema.data_units;
     print!(rt; "row {row}:")?;
-    let mut made = false;
-    for i in 0..d {
-        if !there[i] {
-            print!(rt; " cell {i}")?;
-            made = true;
-        }
-    }
-    if !made {
+    if there[..d].iter().all(|there| *there) {
         return println!(rt; " all data cells there");
     }
+    for i in (0..d).filter(|i| !there[*i]) {
+        print!(rt; " cell {i}")?;
+    }
     print!(rt; " made again from shards")?;
-    let mut left = d;
-    for i in 0..d + schema.parity_units {
-        if there[i] && left > 0 {
-            print!(rt; " {i}")?;
-            left -= 1;
-        }
+    for i in (0..d + schema.parity_units).filter(|i| there[*i]).take(d) {
+        print!(rt; " {i}")?;
     }
     println!(rt; "")
 }
 
 pub(crate) fn print_account(
     rt: &HostRuntime,
-    request: &Request,
+    request: &Request<'_>,
     shards: &[Option<&[u8]>],
     block: &[u8],
 ) -> io::Result<()> {
-    let schema = request.schema;
+    let Request {
+        schema,
+        block_len,
+        ..
+    } = *request;
     print_scheme(rt, request)?;
     for (i, shard) in shards.iter().enumerate() {
-        print_shard(rt, i, max_offset(schema, i, request.block_len), *shard)?;
+        print_shard(rt, i, max_offset(schema, i, block_len), *shard)?;
     }
-    for row in 0..row_count(schema, request.block_len) {
+    for row in 0..row_count(schema, block_len) {
         print_row(
             rt,
             schema,
             row,
-            &cells_there(schema, request.block_len, shards, row),
+            &cells_there(schema, block_len, shards, row),
         )?;
     }
     let digest = Checksum::Crc32.of(block);
