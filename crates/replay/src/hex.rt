@@ -1,9 +1,8 @@
-// Bytes as words of two hex digits a byte.
+// Bytes from words of two hex digits a byte, in small letters alone.
 ghost use Rattle.std.specs.Prelude.{◌<◌, IfOk};
 
 use crate::fault::Fault;
 use std::alloc::Global;
-use std::fmt::Write;
 
 fn value_of(digit: u8) -> Result<u8, Fault>
     ensures { IfOk result (λ v. v < 16) }
@@ -15,29 +14,13 @@ fn value_of(digit: u8) -> Result<u8, Fault>
     }
 }
 
+fn read_byte(digits: &[u8]) -> Result<u8, Fault> {
+    let [high, low] = digits else {
+        return Err(Fault::Form);
+    };
+    Ok(value_of(*high)? * 16 + value_of(*low)?)
+}
+
 pub(crate) fn read_bytes(heap: Global, word: &str) -> Result<Vec<u8>, Fault> {
-    let mut bytes = Vec::new(heap);
-    for pair in word.as_bytes().chunks(2) {
-        let [high, low] = pair else {
-            return Err(Fault::Form);
-        };
-        bytes.push(value_of(*high)? * 16 + value_of(*low)?)?;
-    }
-    Ok(bytes)
-}
-
-// Words are parted by one space.
-pub(crate) fn begin_word(out: &mut String) -> Result<(), Fault> {
-    if !out.is_empty() {
-        out.push(' ')?;
-    }
-    Ok(())
-}
-
-pub(crate) fn write_bytes(out: &mut String, bytes: &[u8]) -> Result<(), Fault> {
-    begin_word(out)?;
-    for byte in bytes {
-        write!(out, "{byte:02x}")?;
-    }
-    Ok(())
+    word.as_bytes().chunks(2).map(read_byte).try_collect(heap)
 }

@@ -1,31 +1,25 @@
 // The matrix of `rs`, and inverses of its rows.
 ghost use Rattle.std.specs.Prelude.{◌<◌};
 
+use crate::answer::Answer;
 use crate::fault::Fault;
-use crate::hex::begin_word;
 use crate::question::Units;
 use codes::{Code, Rs};
 use field::gf256::Gf256;
 use matrix::{Sides, invert};
-use std::alloc::Global;
-use std::fmt::Write;
+use std::alloc::{AllocError, Global};
 
 const ZERO: Gf256 = Gf256 { value: 0 };
 
-fn write_row(out: &mut String, row: &[Gf256]) -> Result<(), Fault> {
-    begin_word(out)?;
-    for entry in row {
-        let byte = entry.value;
-        write!(out, "{byte:02x}")?;
-    }
-    Ok(())
+fn write_row(answer: &mut Answer, row: &[Gf256]) -> Result<(), AllocError> {
+    answer.write_bytes(row.iter().map(|entry| entry.value))
 }
 
-pub(crate) fn write_matrix(out: &mut String, units: Units) -> Result<(), Fault> {
+pub(crate) fn write_matrix(answer: &mut Answer, units: Units) -> Result<(), Fault> {
     let mut matrix = [ZERO; 256];
     <Rs as Code>::matrix(units.data, units.parity, &mut matrix)?;
     for row in matrix.chunks(units.data).take(units.data + units.parity) {
-        write_row(out, row)?;
+        write_row(answer, row)?;
     }
     Ok(())
 }
@@ -36,26 +30,18 @@ fn select(heap: Global, matrix: &[Gf256], d: usize, rows: &[&str]) -> Result<Vec
 {
     let mut square = Vec::new(heap);
     for word in rows {
-        let at: usize = word.parse()?;
-        let Some(row) = matrix.chunks(d).nth(at) else {
-            return Err(Fault::Form);
-        };
+        let row = matrix.chunks(d).nth(word.parse()?).ok_or(Fault::Form)?;
         square.extend_from_slice(row)?;
     }
     Ok(square)
 }
 
-pub(crate) fn write_inverse(
-    heap: Global,
-    out: &mut String,
-    units: Units,
-    rows: &[&str],
-) -> Result<(), Fault> {
+pub(crate) fn write_inverse(answer: &mut Answer, units: Units, rows: &[&str]) -> Result<(), Fault> {
     let d = units.data;
     let p = units.parity;
     let mut matrix = [ZERO; 256];
     <Rs as Code>::matrix(d, p, &mut matrix)?;
-    let square = select(heap, &matrix[0..(d + p) * d], d, rows)?;
+    let square = select(answer.heap(), &matrix[0..(d + p) * d], d, rows)?;
     let sides = Sides {
         rows: rows.len(),
         cols: d,
@@ -64,7 +50,7 @@ pub(crate) fn write_inverse(
     let mut inverse = [ZERO; 256];
     invert(square.as_slice(), sides, &mut work, &mut inverse)?;
     for row in inverse.chunks(d).take(d) {
-        write_row(out, row)?;
+        write_row(answer, row)?;
     }
     Ok(())
 }

@@ -33,6 +33,12 @@ pub(crate) enum Question<'a> {
     Policy(Message<'a>),
 }
 
+impl Units {
+    pub(crate) fn schema(self, codec: Codec, cell_size: usize) -> Result<EcSchema, PolicyFault> {
+        EcSchema::new(codec, self.data, self.parity, cell_size)
+    }
+}
+
 impl Message<'_> {
     pub(crate) fn resolve(self) -> Result<EcSchema, PolicyFault> {
         resolve_ec_policy(self.id, self.cell_size, self.schema)
