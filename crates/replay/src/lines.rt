@@ -1,7 +1,7 @@
 // The lines of the two data files: a question, and what is expected of the library.
 use crate::fault::Fault;
 
-#[derive(Clone, Copy)]
+#[derive(Clone, Copy, PartialEq, Eq, Debug)]
 pub(crate) enum Expected<'a> {
     // the answer that was given there
     Same(&'a str),
@@ -11,7 +11,7 @@ pub(crate) enum Expected<'a> {
     Nothing { name: &'a str },
 }
 
-#[derive(Clone, Copy)]
+#[derive(Clone, Copy, PartialEq, Eq, Debug)]
 pub(crate) struct Line<'a> {
     pub(crate) number: usize,
     pub(crate) question: &'a str,

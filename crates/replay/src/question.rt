@@ -3,7 +3,7 @@ use crate::fault::Fault;
 use policy::{Codec, EcSchema, PolicyFault, SentSchema, resolve_ec_policy};
 
 // How many data and parity cells a row has.
-#[derive(Clone, Copy)]
+#[derive(Clone, Copy, PartialEq, Eq, Debug)]
 pub(crate) struct Units {
     pub(crate) data: usize,
     pub(crate) parity: usize,

@@ -21,7 +21,7 @@ pub(crate) struct Tally<'a> {
 }
 
 // What became of a line.
-#[derive(Clone, Copy)]
+#[derive(Clone, Copy, PartialEq, Eq, Debug)]
 enum Outcome<'a> {
     Agrees,
     Listed(&'a str),
@@ -97,10 +97,7 @@ pub(crate) fn replay<'a, F: Fn(&'a str, &'a str) -> Result<Expected<'a>, Fault>>
     requires { F.IsAlwaysCallable expect }
 {
     let mut tally = Tally::new(rt.alloc());
-    for (i, text) in text.lines().enumerate() {
-        if !asks(text) {
-            continue;
-        }
+    for (i, text) in text.lines().enumerate().filter(|(_, text)| asks(text)) {
         let number = i + 1;
         let outcome = read_line(number, text, &expect).and_then(|line| check(rt, line));
         if let Err(Fault::Form) = outcome {
