@@ -47,11 +47,16 @@ fn print_row(rt: &HostRuntime, schema: EcSchema, row: u64, there: &[bool; 16]) -
     if there[..d].iter().all(|there| *there) {
         return println!(rt; " all data cells there");
     }
-    for i in (0..d).filter(|i| !there[*i]) {
+    for (i, _) in there[..d].iter().enumerate().filter(|(_, there)| !**there) {
         print!(rt; " cell {i}")?;
     }
     print!(rt; " made again from shards")?;
-    for i in (0..d + schema.parity_units).filter(|i| there[*i]).take(d) {
+    for (i, _) in there
+        .iter()
+        .enumerate()
+        .filter(|(_, there)| **there)
+        .take(d)
+    {
         print!(rt; " {i}")?;
     }
     println!(rt; "")
@@ -72,14 +77,10 @@ pub(crate) fn print_account(
     for (i, shard) in shards.iter().enumerate() {
         print_shard(rt, i, max_offset(schema, i, block_len), *shard)?;
     }
-    for row in 0..row_count(schema, block_len) {
-        print_row(
-            rt,
-            schema,
-            row,
-            &cells_there(schema, block_len, shards, row),
-        )?;
-    }
+    (0..row_count(schema, block_len)).try_for_each(|row| {
+        let there = cells_there(schema, block_len, shards, row);
+        print_row(rt, schema, row, &there)
+    })?;
     let digest = Checksum::Crc32.of(block);
     println!(rt; "digest: CRC-32 {digest:08x}")
 }

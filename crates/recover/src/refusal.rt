@@ -23,6 +23,7 @@ pub(crate) enum Refusal {
 }
 
 impl Refusal {
+    // Stays: (d) most of the numbers are the library's own, so no discriminants would give them.
     pub(crate) fn number(self) -> u8
         ensures { result ≡ number_of self }
     {

@@ -38,6 +38,7 @@ fn read_schema(text: &str) -> Result<EcSchema, Refusal> {
     Ok(resolve_ec_policy(0, cell_size, Some(sent))?)
 }
 
+// Stays: (d) no answer is handed on by the last arm, it is the refusal of a word that is no option.
 fn read_scheme(option: &str, value: &str) -> Result<EcSchema, Refusal> {
     match option {
         "--policy" => Ok(schema_by_name(value)?),
@@ -49,13 +50,13 @@ fn read_scheme(option: &str, value: &str) -> Result<EcSchema, Refusal> {
 
 // The words of the command line, the program's own name first.
 pub(crate) fn read_request<'a>(words: &[&'a str]) -> Result<Request<'a>, Refusal> {
-    let [_, option, value, block_len, folder, out] = words else {
-        return Err(Refusal::Usage);
-    };
+    let [_, option, value, block_len, folder, out] = <[&'a str; 6]>::try_from(words).map_err(
+        |_| Refusal::Usage,
+    )?;
     Ok(Request {
         schema: read_scheme(option, value)?,
         block_len: read_number(block_len)?,
-        folder: *folder,
-        out: *out,
+        folder,
+        out,
     })
 }

@@ -21,9 +21,8 @@ impl ShardFiles {
 fn read_shard(rt: &HostRuntime, folder: &str, i: usize) -> Result<Option<Vec<u8>>, Refusal> {
     let path = format!(in rt.alloc(); "{folder}/shard-{i}")?;
     match fs::read(rt, path.as_str()) {
-        Ok(bytes) => Ok(Some(bytes)),
         Err(e) if e.kind() == ErrorKind::NotFound => Ok(None),
-        Err(e) => Err(Refusal::File(e)),
+        read => Ok(Some(read?)),
     }
 }
 

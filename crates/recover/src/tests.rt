@@ -44,8 +44,7 @@ fn folder_that_is_not_there(rt: HostRuntime) -> Result<(), Fail> {
         "no-such-folder",
         "block.out",
     ];
-    match read_shards(&rt, &read_request(&words)?) {
-        Err(Refusal::File(_)) => Ok(()),
-        _ => Err(Fail::new("taken up")),
-    }
+    let shards = read_shards(&rt, &read_request(&words)?);
+    assert!(rt; matches!(shards, Err(Refusal::File(_))));
+    Ok(())
 }
