@@ -39,6 +39,7 @@ impl Fault {
     }
 }
 
+// Stays: (d) a derive would want a second variant for a line of another form.
 impl From<ParseIntError> for Fault {
     fn from(_e: ParseIntError) -> Fault {
         Fault::Form

@@ -1,26 +1,26 @@
 // Bytes from words of two hex digits a byte, in small letters alone.
-ghost use Rattle.std.specs.Prelude.{◌<◌, IfOk};
+ghost use Rattle.std.specs.Prelude.{◌<◌, IfSome};
 
 use crate::fault::Fault;
 use std::alloc::Global;
 
-fn value_of(digit: u8) -> Result<u8, Fault>
-    ensures { IfOk result (λ v. v < 16) }
+const DIGITS: [u8; 16] = *b"0123456789abcdef";
+
+fn value_of(digit: u8) -> Option<u8>
+    ensures { IfSome result (λ v. v < 16) }
 {
-    match digit {
-        b'0'..=b'9' => Ok(digit - b'0'),
-        b'a'..=b'f' => Ok(digit - b'a' + 10),
-        _ => Err(Fault::Form),
-    }
+    let value = DIGITS.iter().position(|other| *other == digit)?;
+    Some(value as u8)
 }
 
-fn read_byte(digits: &[u8]) -> Result<u8, Fault> {
-    let [high, low] = digits else {
-        return Err(Fault::Form);
-    };
-    Ok(value_of(*high)? * 16 + value_of(*low)?)
+fn read_byte(digits: &[u8]) -> Option<u8> {
+    let [high, low] = <[u8; 2]>::try_from(digits).ok()?;
+    Some(value_of(high)? * 16 + value_of(low)?)
 }
 
 pub(crate) fn read_bytes(heap: Global, word: &str) -> Result<Vec<u8>, Fault> {
-    word.as_bytes().chunks(2).map(read_byte).try_collect(heap)
+    word.as_bytes()
+        .chunks(2)
+        .map(|digits| read_byte(digits).ok_or(Fault::Form))
+        .try_collect(heap)
 }

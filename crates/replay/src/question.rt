@@ -76,39 +76,24 @@ fn read_id<'a>(id: &str) -> Result<Message<'a>, Fault> {
     })
 }
 
-// A question about cells or matrices.
-fn read_code<'a>(words: &'a [&'a str]) -> Result<Question<'a>, Fault> {
-    match words {
-        ["encode", d, p, cells @ ..] => Ok(Question::Encode(Codec::Rs, read_units(d, p)?, cells)),
-        ["xor", d, cells @ ..] => Ok(Question::Encode(Codec::Xor, read_units(d, "1")?, cells)),
-        ["matrix", d, p] => Ok(Question::Matrix(read_units(d, p)?)),
-        ["inverse", d, p, rows @ ..] => Ok(Question::Inverse(read_units(d, p)?, rows)),
-        _ => Err(Fault::Form),
-    }
-}
-
-// A question about a scheme, or about shards under it.
-fn read_scheme<'a>(words: &'a [&'a str]) -> Result<Question<'a>, Fault> {
-    match words {
-        ["decode", c, d, p, s, shards @ ..] => {
-            Ok(Question::Decode(read_message(0, [*c, *d, *p, *s])?, shards))
-        }
-        ["shards", d, p, s, len] => Ok(Question::Shards(
-            read_units(d, p)?,
-            s.parse()?,
-            len.parse()?,
-        )),
-        ["policy", id] => Ok(Question::Policy(read_id(id)?)),
-        ["policy", id, c, d, p, s] => {
-            Ok(Question::Policy(read_message(id.parse()?, [*c, *d, *p, *s])?))
-        }
-        _ => Err(Fault::Form),
-    }
-}
-
+// Stays: (d) no answer is handed on by the last arm, it is the fault of a line of another form.
 pub(crate) fn read_question<'a>(words: &'a [&'a str]) -> Result<Question<'a>, Fault> {
-    match words {
-        ["encode" | "xor" | "matrix" | "inverse", ..] => read_code(words),
-        _ => read_scheme(words),
-    }
+    let question = match words {
+        ["encode", d, p, cells @ ..] => Question::Encode(Codec::Rs, read_units(d, p)?, cells),
+        ["xor", d, cells @ ..] => Question::Encode(Codec::Xor, read_units(d, "1")?, cells),
+        ["matrix", d, p] => Question::Matrix(read_units(d, p)?),
+        ["inverse", d, p, rows @ ..] => Question::Inverse(read_units(d, p)?, rows),
+        ["decode", c, d, p, s, shards @ ..] => {
+            Question::Decode(read_message(0, [*c, *d, *p, *s])?, shards)
+        }
+        ["shards", d, p, s, len] => {
+            Question::Shards(read_units(d, p)?, s.parse()?, len.parse()?)
+        }
+        ["policy", id] => Question::Policy(read_id(id)?),
+        ["policy", id, c, d, p, s] => {
+            Question::Policy(read_message(id.parse()?, [*c, *d, *p, *s])?)
+        }
+        _ => return Err(Fault::Form),
+    };
+    Ok(question)
 }

@@ -7,7 +7,7 @@ use crate::hex::read_bytes;
 use crate::question::Units;
 use policy::{Codec, EcSchema};
 use std::alloc::{AllocError, Global};
-use std::iter;
+use std::{array, iter};
 use stripe::{encode, recover};
 
 // The bytes of a shard that is there.
@@ -29,26 +29,6 @@ fn lay_data(heap: Global, schema: EcSchema, cells: &[&str]) -> Result<Vec<u8>, F
     }
     add_zeros(&mut row, schema.parity_units * schema.cell_size)?;
     Ok(row)
-}
-
-// The parity cells of the data cells, which are all as long as the first.
-pub(crate) fn write_parity(
-    answer: &mut Answer,
-    codec: Codec,
-    units: Units,
-    cells: &[&str],
-) -> Result<(), Fault> {
-    let digits = cells.first().map_or(0, |word| word.len());
-    let schema = units.schema(codec, digits / 2)?;
-    if cells.len() != units.data {
-        return Err(Fault::Form);
-    }
-    let mut row = lay_data(answer.heap(), schema, cells)?;
-    encode(schema, row.as_mut_slice())?;
-    for cell in row.as_slice().chunks(schema.cell_size).skip(units.data) {
-        answer.write_bytes(cell.iter().copied())?;
-    }
-    Ok(())
 }
 
 // A shard that is missing is written as a dash.
@@ -75,11 +55,7 @@ fn count_rows(shards: &[Shard], cell_size: usize) -> Result<usize, Fault>
 
 // Which of the cells of each row are there.
 fn flags(shards: &[Shard]) -> [bool; 16] {
-    let mut there = [false; 16];
-    for (flag, shard) in there.iter_mut().zip(shards) {
-        *flag = shard.is_some();
-    }
-    there
+    array::from_fn(|i| matches!(shards.get(i), Some(Some(_))))
 }
 
 // The cells of a row, zeros where one is missing.
@@ -103,28 +79,59 @@ fn lay_row(heap: Global, shards: &[Shard], cell_size: usize, at: usize) -> Resul
     Ok(row)
 }
 
-// The data cells of all rows, row by row.
-pub(crate) fn write_data(
-    answer: &mut Answer,
-    schema: EcSchema,
-    words: &[&str],
-) -> Result<(), Fault> {
-    if words.len() != schema.data_units + schema.parity_units {
-        return Err(Fault::Form);
-    }
-    let heap = answer.heap();
-    let size = schema.cell_size;
-    let shards: Vec<Shard> = words
-        .iter()
-        .map(|word| read_shard(heap, word))
-        .try_collect(heap)?;
-    let there = flags(shards.as_slice());
-    for at in 0..count_rows(shards.as_slice(), size)? {
-        let mut row = lay_row(heap, shards.as_slice(), size, at)?;
-        recover(schema, &there, row.as_mut_slice())?;
-        for cell in row.as_slice().chunks(size).take(schema.data_units) {
-            answer.write_bytes(cell.iter().copied())?;
+impl Answer {
+    // The parity cells of the data cells, which are all as long as the first.
+    pub(crate) fn write_parity(
+        &mut self,
+        codec: Codec,
+        units: Units,
+        cells: &[&str],
+    ) -> Result<(), Fault> {
+        let digits = cells.first().map_or(0, |word| word.len());
+        let schema = units.schema(codec, digits / 2)?;
+        if cells.len() != units.data {
+            return Err(Fault::Form);
         }
+        let mut row = lay_data(self.heap(), schema, cells)?;
+        encode(schema, row.as_mut_slice())?;
+        for cell in row.as_slice().chunks(schema.cell_size).skip(units.data) {
+            self.write_bytes(cell.iter().copied())?;
+        }
+        Ok(())
     }
-    Ok(())
+
+    // The data cells of a row.
+    fn write_row_data(
+        &mut self,
+        schema: EcSchema,
+        shards: &[Shard],
+        at: usize,
+    ) -> Result<(), Fault> {
+        let mut row = lay_row(self.heap(), shards, schema.cell_size, at)?;
+        recover(schema, &flags(shards), row.as_mut_slice())?;
+        for cell in row
+            .as_slice()
+            .chunks(schema.cell_size)
+            .take(schema.data_units)
+        {
+            self.write_bytes(cell.iter().copied())?;
+        }
+        Ok(())
+    }
+
+    // The data cells of all rows, row by row.
+    pub(crate) fn write_data(&mut self, schema: EcSchema, words: &[&str]) -> Result<(), Fault> {
+        if words.len() != schema.data_units + schema.parity_units {
+            return Err(Fault::Form);
+        }
+        let heap = self.heap();
+        let shards: Vec<Shard> = words
+            .iter()
+            .map(|word| read_shard(heap, word))
+            .try_collect(heap)?;
+        let shards = shards.as_slice();
+        (0..count_rows(shards, schema.cell_size)?).try_for_each(|at| self.write_row_data(
+            schema, shards, at,
+        ))
+    }
 }
