@@ -30,15 +30,14 @@ fn print_parity(rt: &HostRuntime) -> io::Result<()> {
 // The shards of a block of 30 bytes, and a range of it row by row.
 fn print_cells(rt: &HostRuntime) -> io::Result<()> {
     let schema = EcSchema::new(Codec::Rs, 3, 2, 4).unwrap();
-    for i in 0..5 {
+    (0..schema.units()).try_for_each(|i| {
         let len = max_offset(schema, i, 30);
-        println!(rt; "shard {i} of a block of 30 bytes has {len}")?;
-    }
-    for k in 0..3 {
+        println!(rt; "shard {i} of a block of 30 bytes has {len}")
+    })?;
+    (0..3).try_for_each(|k| {
         let len = row_range(schema, k, 5, 20).len;
-        println!(rt; "reading 20 bytes from 5 hands out {len} in row {k}")?;
-    }
-    Ok(())
+        println!(rt; "reading 20 bytes from 5 hands out {len} in row {k}")
+    })
 }
 
 fn print_checksums(rt: &HostRuntime) -> io::Result<()> {
