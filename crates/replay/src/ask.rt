@@ -6,26 +6,16 @@ use cells::max_offset;
 use policy::{Codec, EcSchema};
 use std::alloc::{AllocError, Global};
 
-fn codec_name(codec: Codec) -> &'static str {
-    match codec {
-        Codec::Rs => "rs",
-        Codec::RsLegacy => "rs-legacy",
-        Codec::Xor => "xor",
-    }
-}
-
 impl Answer {
     fn write_scheme(&mut self, schema: EcSchema) -> Result<(), AllocError> {
-        self.write_word(codec_name(schema.codec))?;
+        self.write_word(schema.codec)?;
         self.write_word(schema.data_units)?;
         self.write_word(schema.parity_units)?;
         self.write_word(schema.cell_size)
     }
 
     fn write_lengths(&mut self, schema: EcSchema, block_len: u64) -> Result<(), AllocError> {
-        (0..schema.data_units + schema.parity_units).try_for_each(|i| self.write_word(max_offset(
-            schema, i, block_len,
-        )))
+        (0..schema.units()).try_for_each(|i| self.write_word(max_offset(schema, i, block_len)))
     }
 
     fn write(&mut self, question: Question<'_>) -> Result<(), Fault> {

@@ -10,14 +10,14 @@ pub(crate) struct Units {
 }
 
 // What a policy message says of a scheme.
-#[derive(Clone, Copy)]
+#[derive(Clone, Copy, PartialEq, Eq, Debug)]
 pub(crate) struct Message<'a> {
     id: u32,
     cell_size: u32,
     schema: Option<SentSchema<'a>>,
 }
 
-#[derive(Clone, Copy)]
+#[derive(Clone, Copy, PartialEq, Eq, Debug)]
 pub(crate) enum Question<'a> {
     // the parity cells of data cells
     Encode(Codec, Units, &'a [&'a str]),
@@ -76,7 +76,6 @@ fn read_id<'a>(id: &str) -> Result<Message<'a>, Fault> {
     })
 }
 
-// Stays: (d) no answer is handed on by the last arm, it is the fault of a line of another form.
 pub(crate) fn read_question<'a>(words: &'a [&'a str]) -> Result<Question<'a>, Fault> {
     let question = match words {
         ["encode", d, p, cells @ ..] => Question::Encode(Codec::Rs, read_units(d, p)?, cells),
@@ -93,6 +92,7 @@ pub(crate) fn read_question<'a>(words: &'a [&'a str]) -> Result<Question<'a>, Fa
         ["policy", id, c, d, p, s] => {
             Question::Policy(read_message(id.parse()?, [*c, *d, *p, *s])?)
         }
+        // Stays: (d) nothing is handed on here: words of another form are a fault.
         _ => return Err(Fault::Form),
     };
     Ok(question)

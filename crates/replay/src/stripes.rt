@@ -121,7 +121,7 @@ impl Answer {
 
     // The data cells of all rows, row by row.
     pub(crate) fn write_data(&mut self, schema: EcSchema, words: &[&str]) -> Result<(), Fault> {
-        if words.len() != schema.data_units + schema.parity_units {
+        if words.len() != schema.units() {
             return Err(Fault::Form);
         }
         let heap = self.heap();
