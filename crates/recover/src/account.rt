@@ -2,17 +2,9 @@
 use crate::request::Request;
 use cells::{max_offset, row_count};
 use checksum::Checksum;
-use policy::{Codec, EcSchema};
+use policy::EcSchema;
 use rebuild::cells_there;
 use std::io;
-
-fn codec_name(codec: Codec) -> &'static str {
-    match codec {
-        Codec::Rs => "rs",
-        Codec::RsLegacy => "rs-legacy",
-        Codec::Xor => "xor",
-    }
-}
 
 fn print_scheme(rt: &HostRuntime, request: &Request<'_>) -> io::Result<()> {
     let EcSchema {
@@ -22,11 +14,10 @@ fn print_scheme(rt: &HostRuntime, request: &Request<'_>) -> io::Result<()> {
         cell_size,
         ..
     } = request.schema;
-    let name = codec_name(codec);
     let len = request.block_len;
     let rows = row_count(request.schema, len);
     println!(rt;
-        "scheme: {name}, {data_units} data and {parity_units} parity units, cells of {cell_size} bytes"
+        "scheme: {codec}, {data_units} data and {parity_units} parity units, cells of {cell_size} bytes"
     )?;
     println!(rt; "block: {len} bytes in {rows} rows")
 }

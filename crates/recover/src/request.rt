@@ -2,7 +2,7 @@
 use crate::refusal::Refusal;
 use policy::{EcSchema, SentSchema, resolve_ec_policy, schema_by_id, schema_by_name};
 
-#[derive(Clone, Copy)]
+#[derive(Clone, Copy, PartialEq, Eq, Debug)]
 pub(crate) struct Request<'a> {
     pub(crate) schema: EcSchema,
     pub(crate) block_len: u64,
@@ -38,12 +38,12 @@ fn read_schema(text: &str) -> Result<EcSchema, Refusal> {
     Ok(resolve_ec_policy(0, cell_size, Some(sent))?)
 }
 
-// Stays: (d) no answer is handed on by the last arm, it is the refusal of a word that is no option.
 fn read_scheme(option: &str, value: &str) -> Result<EcSchema, Refusal> {
     match option {
         "--policy" => Ok(schema_by_name(value)?),
         "--id" => Ok(schema_by_id(read_part(value)?)?),
         "--schema" => read_schema(value),
+        // Stays: (d) nothing is handed on here: a word that is no option is refused.
         _ => Err(Refusal::Usage),
     }
 }

@@ -30,8 +30,7 @@ pub(crate) fn read_shards(rt: &HostRuntime, request: &Request<'_>) -> Result<Sha
     if !fs::metadata(rt, request.folder)?.is_dir() {
         return Err(Refusal::File(io::Error::from(ErrorKind::NotADirectory)));
     }
-    let schema = request.schema;
-    let files = (0..schema.data_units + schema.parity_units)
+    let files = (0..request.schema.units())
         .map(|i| read_shard(rt, request.folder, i))
         .try_collect(rt.alloc())?;
     Ok(ShardFiles { files })
