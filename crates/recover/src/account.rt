@@ -42,12 +42,8 @@ fn print_row(rt: &HostRuntime, schema: EcSchema, row: u64, there: &[bool; 16]) -
         print!(rt; " cell {i}")?;
     }
     print!(rt; " made again from shards")?;
-    for (i, _) in there
-        .iter()
-        .enumerate()
-        .filter(|(_, there)| **there)
-        .take(d)
-    {
+    let sources = there.iter().enumerate().filter(|(_, there)| **there);
+    for (i, _) in sources.take(d) {
         print!(rt; " {i}")?;
     }
     println!(rt; "")

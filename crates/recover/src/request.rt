@@ -50,9 +50,8 @@ fn read_scheme(option: &str, value: &str) -> Result<EcSchema, Refusal> {
 
 // The words of the command line, the program's own name first.
 pub(crate) fn read_request<'a>(words: &[&'a str]) -> Result<Request<'a>, Refusal> {
-    let [_, option, value, block_len, folder, out] = <[&'a str; 6]>::try_from(words).map_err(
-        |_| Refusal::Usage,
-    )?;
+    let words = <[&'a str; 6]>::try_from(words).map_err(|_| Refusal::Usage)?;
+    let [_, option, value, block_len, folder, out] = words;
     Ok(Request {
         schema: read_scheme(option, value)?,
         block_len: read_number(block_len)?,

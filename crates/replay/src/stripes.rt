@@ -94,7 +94,8 @@ impl Answer {
         }
         let mut row = lay_data(self.heap(), schema, cells)?;
         encode(schema, row.as_mut_slice())?;
-        for cell in row.as_slice().chunks(schema.cell_size).skip(units.data) {
+        let cells = row.as_slice().chunks(schema.cell_size);
+        for cell in cells.skip(units.data) {
             self.write_bytes(cell.iter().copied())?;
         }
         Ok(())
@@ -109,11 +110,8 @@ impl Answer {
     ) -> Result<(), Fault> {
         let mut row = lay_row(self.heap(), shards, schema.cell_size, at)?;
         recover(schema, &flags(shards), row.as_mut_slice())?;
-        for cell in row
-            .as_slice()
-            .chunks(schema.cell_size)
-            .take(schema.data_units)
-        {
+        let cells = row.as_slice().chunks(schema.cell_size);
+        for cell in cells.take(schema.data_units) {
             self.write_bytes(cell.iter().copied())?;
         }
         Ok(())
@@ -130,8 +128,7 @@ impl Answer {
             .map(|word| read_shard(heap, word))
             .try_collect(heap)?;
         let shards = shards.as_slice();
-        (0..count_rows(shards, schema.cell_size)?).try_for_each(|at| self.write_row_data(
-            schema, shards, at,
-        ))
+        let rows = count_rows(shards, schema.cell_size)?;
+        (0..rows).try_for_each(|at| self.write_row_data(schema, shards, at))
     }
 }
