@@ -20,32 +20,25 @@ pub fn published_values() -> u8
 
 // The parity cells of three data cells of one byte each.
 fn print_parity(rt: &HostRuntime) -> io::Result<()> {
+    let schema = EcSchema::new(Codec::Rs, 3, 2, 1).unwrap();
     let mut row = [1u8, 2, 3, 0, 0];
-    let Ok(schema) = EcSchema::new(Codec::Rs, 3, 2, 1) else {
-        return Ok(());
-    };
-    let Ok(()) = encode(schema, &mut row) else {
-        return Ok(());
-    };
+    encode(schema, &mut row).unwrap();
     let [a, b, c, p, q] = row;
     println!(rt; "cells {a:02X} {b:02X} {c:02X} have the parity {p:02X} {q:02X}")
 }
 
 // The shards of a block of 30 bytes, and a range of it row by row.
 fn print_cells(rt: &HostRuntime) -> io::Result<()> {
-    let Ok(schema) = EcSchema::new(Codec::Rs, 3, 2, 4) else {
-        return Ok(());
-    };
+    let schema = EcSchema::new(Codec::Rs, 3, 2, 4).unwrap();
     let block = StripedBlock { schema, len: 30 };
-    for i in 0..5 {
+    (0..schema.units()).try_for_each(|i| {
         let len = block.max_offset(i);
-        println!(rt; "shard {i} of a block of 30 bytes has {len}")?;
-    }
-    for k in 0..3 {
+        println!(rt; "shard {i} of a block of 30 bytes has {len}")
+    })?;
+    (0..3).try_for_each(|k| {
         let len = row_range(schema, k, 5, 20).len;
-        println!(rt; "reading 20 bytes from 5 hands out {len} in row {k}")?;
-    }
-    Ok(())
+        println!(rt; "reading 20 bytes from 5 hands out {len} in row {k}")
+    })
 }
 
 fn print_checksums(rt: &HostRuntime) -> io::Result<()> {

@@ -9,7 +9,6 @@ mod shards;
 mod tests;
 
 use account::print_account;
-use cells::StripedBlock;
 use rebuild::HeldShards;
 use refusal::Refusal;
 use request::{Request, read_request};
@@ -35,46 +34,35 @@ It prints which shards are there, which cells are made again from which shards, 
 the block. What cannot be done is refused by number and in words; nothing is written then.";
 
 // Reads the shards, puts the block together, prints the account and writes the block.
-fn run(rt: &HostRuntime, request: &Request) -> Result<(), Refusal> {
+fn run(rt: &HostRuntime, request: &Request<'_>) -> Result<(), Refusal> {
     let files = read_shards(rt, request)?;
     let views = files.views(rt.alloc())?;
     let held = HeldShards {
-        block: StripedBlock {
-            schema: request.schema,
-            len: request.block_len,
-        },
+        block: request.block,
         shards: views.as_slice(),
     };
-    let block = held.rebuild(rt.alloc())?;
-    print_account(rt, held, block.as_slice())?;
-    fs::write(rt, request.out.as_str(), block.as_slice())?;
+    let bytes = held.rebuild(rt.alloc())?;
+    print_account(rt, held, bytes.as_slice())?;
+    fs::write(rt, request.out, bytes.as_slice())?;
     Ok(())
 }
 
 fn start(rt: &HostRuntime) -> Result<(), Refusal> {
-    let words = words(rt)?;
-    if words.len() == 2 && (words[1].as_str() == "--help" || words[1].as_str() == "-h") {
+    let args: Vec<String> = env::args(rt)?.collect(rt.alloc())?;
+    let words: Vec<&str> = args.iter().map(|word| word.as_str()).collect(rt.alloc())?;
+    if let [_, "--help" | "-h"] = words.as_slice() {
         rt.println(HELP)?;
         return Ok(());
     }
-    let request = read_request(rt.alloc(), words.as_slice())?;
-    run(rt, &request)
-}
-
-// The words of the command line.
-fn words(rt: &HostRuntime) -> Result<Vec<String>, Refusal> {
-    let mut words = Vec::new(rt.alloc());
-    for word in env::args(rt)? {
-        words.push(word)?;
-    }
-    Ok(words)
+    run(rt, &read_request(words.as_slice())?)
 }
 
 fn main(rt: HostRuntime) -> ExitCode {
     let Err(refusal) = start(&rt) else {
         return ExitCode::SUCCESS;
     };
+    let number = refusal.number();
     // the status tells it all the same where this can't be written
-    let _ = eprintln!(rt; "recover: {refusal}");
+    let _ = eprintln!(rt; "recover: refused {number}: {refusal}");
     ExitCode::FAILURE
 }

@@ -2,8 +2,8 @@
 use crate::refusal::Refusal;
 use crate::request::Request;
 use std::alloc::{AllocError, Global};
-use std::fs;
 use std::io::ErrorKind;
+use std::{fs, io};
 
 #[derive(Drop)]
 pub(crate) struct ShardFiles {
@@ -13,41 +13,25 @@ pub(crate) struct ShardFiles {
 impl ShardFiles {
     // Each shard's bytes where its file is there.
     pub(crate) fn views(&self, heap: Global) -> Result<Vec<Option<&[u8]>>, AllocError> {
-        let mut views = Vec::new(heap);
-        for file in self.files.iter() {
-            let view = match file {
-                Some(bytes) => Some(bytes.as_slice()),
-                None => None,
-            };
-            views.push(view)?;
-        }
-        Ok(views)
+        self.files.iter().map(|file| file.as_deref()).collect(heap)
     }
 }
 
 // The bytes of one file; none where there is no such file.
-fn read_shard(rt: &HostRuntime, path: &str) -> Result<Option<Vec<u8>>, Refusal> {
-    match fs::read(rt, path) {
-        Ok(bytes) => Ok(Some(bytes)),
-        Err(e) => {
-            if e.kind() == ErrorKind::NotFound {
-                Ok(None)
-            } else {
-                Err(Refusal::File)
-            }
-        }
+fn read_shard(rt: &HostRuntime, folder: &str, i: usize) -> Result<Option<Vec<u8>>, Refusal> {
+    let path = format!(in rt.alloc(); "{folder}/shard-{i}")?;
+    match fs::read(rt, path.as_str()) {
+        Err(e) if e.kind() == ErrorKind::NotFound => Ok(None),
+        read => Ok(Some(read?)),
     }
 }
 
-pub(crate) fn read_shards(rt: &HostRuntime, request: &Request) -> Result<ShardFiles, Refusal> {
-    let folder = request.folder.as_str();
-    if !fs::metadata(rt, folder)?.is_dir() {
-        return Err(Refusal::File);
+pub(crate) fn read_shards(rt: &HostRuntime, request: &Request<'_>) -> Result<ShardFiles, Refusal> {
+    if !fs::metadata(rt, request.folder)?.is_dir() {
+        return Err(Refusal::File(io::Error::from(ErrorKind::NotADirectory)));
     }
-    let mut files = Vec::new(rt.alloc());
-    for i in 0..request.schema.data_units + request.schema.parity_units {
-        let path = format!(in rt.alloc(); "{folder}/shard-{i}")?;
-        files.push(read_shard(rt, path.as_str())?)?;
-    }
+    let files = (0..request.block.schema.units())
+        .map(|i| read_shard(rt, request.folder, i))
+        .try_collect(rt.alloc())?;
     Ok(ShardFiles { files })
 }

@@ -1,6 +1,7 @@
 // Asks the library what other programs were asked about codes and schemes, and counts how many answers agree.
 #![tactic(auto)]
 
+mod answer;
 mod ask;
 mod fault;
 mod hex;
@@ -11,10 +12,10 @@ mod stripes;
 mod tally;
 
 use fault::Fault;
-use lines::Source;
+use lines::{expect_crate, expect_isal};
 use std::fs;
 use std::process::ExitCode;
-use tally::replay;
+use tally::{Tally, replay};
 
 const PARITY: &str = "parity-isal.txt";
 
@@ -23,9 +24,12 @@ const ANSWERS: &str = "crate-answers.txt";
 // Parity that libisal made: whether the library makes the same.
 fn replay_parity(rt: &HostRuntime) -> Result<bool, Fault> {
     let text = fs::read_to_string(rt, PARITY)?;
-    let tally = replay(rt, Source::Isal, text.as_str())?;
-    let questions = tally.questions;
-    let agree = tally.agree;
+    let tally = replay(rt, text.as_str(), expect_isal)?;
+    let Tally {
+        questions,
+        agree,
+        ..
+    } = tally;
     println!(rt; "{PARITY}: {questions} questions, {agree} agree")?;
     Ok(tally.wrong == 0)
 }
@@ -33,11 +37,14 @@ fn replay_parity(rt: &HostRuntime) -> Result<bool, Fault> {
 // What the crate answers, and where the rules here differ: whether the library answers by the rules.
 fn replay_answers(rt: &HostRuntime) -> Result<bool, Fault> {
     let text = fs::read_to_string(rt, ANSWERS)?;
-    let tally = replay(rt, Source::Crate, text.as_str())?;
-    let questions = tally.questions;
-    let agree = tally.agree;
-    let listed = tally.listed;
-    let unknown = tally.unknown;
+    let tally = replay(rt, text.as_str(), expect_crate)?;
+    let Tally {
+        questions,
+        agree,
+        listed,
+        unknown,
+        ..
+    } = tally;
     println!(rt;
         "{ANSWERS}: {questions} questions: {agree} agree with the crate, {listed} differ from it as listed, {unknown} have no counterpart here"
     )?;

@@ -1,70 +1,70 @@
 // The matrix of `rs`, and inverses of its rows.
-ghost use Rattle.std.specs.Prelude.{◌<◌};
+ghost use Rattle.std.specs.Prelude.{◌+◌, ◌*◌, ◌<◌, ◌≤◌, length, IfOk};
 
+use crate::answer::Answer;
 use crate::fault::Fault;
-use crate::hex::begin_word;
 use crate::question::Units;
-use codes::{Code, Rs};
+use codes::{Code, GeneratorFault, Rs};
 use field::gf256::Gf256;
 use matrix::{Sides, invert};
-use std::alloc::Global;
-use std::fmt::Write;
+use std::alloc::{AllocError, Global};
 
 const ZERO: Gf256 = Gf256 { value: 0 };
 
-fn write_row(out: &mut String, row: &[Gf256]) -> Result<(), Fault> {
-    begin_word(out)?;
-    for entry in row {
-        let byte = entry.value;
-        write!(out, "{byte:02x}")?;
-    }
-    Ok(())
-}
-
-pub(crate) fn write_matrix(out: &mut String, units: Units) -> Result<(), Fault> {
+// The matrix of these units, with room after it.
+fn matrix_of(units: Units) -> Result<[Gf256; 256], GeneratorFault>
+    ensures some_data { IfOk result (λ m. 0 < units.data) }
+    ensures in_full { IfOk result (λ m. (units.data + units.parity) * units.data ≤ length m) }
+{
+    // Stays: (a) the library writes a matrix into a buffer that it is lent.
     let mut matrix = [ZERO; 256];
     <Rs as Code>::matrix(units.data, units.parity, &mut matrix)?;
-    for row in matrix.chunks(units.data).take(units.data + units.parity) {
-        write_row(out, row)?;
-    }
-    Ok(())
+    Ok(matrix)
 }
 
-// The rows of a matrix that are named, one after another.
-fn select(heap: Global, matrix: &[Gf256], d: usize, rows: &[&str]) -> Result<Vec<Gf256>, Fault>
-    requires { 0 < d }
-{
+// The rows of the matrix that are named, one after another.
+fn select(heap: Global, units: Units, rows: &[&str]) -> Result<Vec<Gf256>, Fault> {
+    let matrix = matrix_of(units)?;
+    let all = units.data + units.parity;
     let mut square = Vec::new(heap);
     for word in rows {
         let at: usize = word.parse()?;
-        let Some(row) = matrix.chunks(d).nth(at) else {
-            return Err(Fault::Form);
-        };
+        let row = matrix
+            .chunks(units.data)
+            .take(all)
+            .nth(at)
+            .ok_or(Fault::Form)?;
         square.extend_from_slice(row)?;
     }
     Ok(square)
 }
 
-pub(crate) fn write_inverse(
-    heap: Global,
-    out: &mut String,
-    units: Units,
-    rows: &[&str],
-) -> Result<(), Fault> {
-    let d = units.data;
-    let p = units.parity;
-    let mut matrix = [ZERO; 256];
-    <Rs as Code>::matrix(d, p, &mut matrix)?;
-    let square = select(heap, &matrix[0..(d + p) * d], d, rows)?;
-    let sides = Sides {
-        rows: rows.len(),
-        cols: d,
-    };
-    let mut work = [ZERO; 512];
-    let mut inverse = [ZERO; 256];
-    invert(square.as_slice(), sides, &mut work, &mut inverse)?;
-    for row in inverse.chunks(d).take(d) {
-        write_row(out, row)?;
+impl Answer {
+    fn write_row(&mut self, row: &[Gf256]) -> Result<(), AllocError> {
+        self.write_bytes(row.iter().map(|entry| entry.value))
     }
-    Ok(())
+
+    pub(crate) fn write_matrix(&mut self, units: Units) -> Result<(), Fault> {
+        let matrix = matrix_of(units)?;
+        for row in matrix.chunks(units.data).take(units.data + units.parity) {
+            self.write_row(row)?;
+        }
+        Ok(())
+    }
+
+    pub(crate) fn write_inverse(&mut self, units: Units, rows: &[&str]) -> Result<(), Fault> {
+        let square = select(self.heap(), units, rows)?;
+        let sides = Sides {
+            rows: rows.len(),
+            cols: units.data,
+        };
+        // Stays: (a) the library works in buffers that it is lent.
+        let mut work = [ZERO; 512];
+        let mut inverse = [ZERO; 256];
+        invert(square.as_slice(), sides, &mut work, &mut inverse)?;
+        for row in inverse.chunks(units.data).take(units.data) {
+            self.write_row(row)?;
+        }
+        Ok(())
+    }
 }

@@ -3,21 +3,21 @@ use crate::fault::Fault;
 use policy::{Codec, EcSchema, PolicyFault, SentSchema, resolve_ec_policy};
 
 // How many data and parity cells a row has.
-#[derive(Clone, Copy)]
+#[derive(Clone, Copy, PartialEq, Eq, Debug)]
 pub(crate) struct Units {
     pub(crate) data: usize,
     pub(crate) parity: usize,
 }
 
 // What a policy message says of a scheme.
-#[derive(Clone, Copy)]
+#[derive(Clone, Copy, PartialEq, Eq, Debug)]
 pub(crate) struct Message<'a> {
     id: u32,
     cell_size: u32,
     schema: Option<SentSchema<'a>>,
 }
 
-#[derive(Clone, Copy)]
+#[derive(Clone, Copy, PartialEq, Eq, Debug)]
 pub(crate) enum Question<'a> {
     // the parity cells of data cells
     Encode(Codec, Units, &'a [&'a str]),
@@ -31,6 +31,12 @@ pub(crate) enum Question<'a> {
     Shards(Units, usize, u64),
     // the scheme of a policy
     Policy(Message<'a>),
+}
+
+impl Units {
+    pub(crate) fn schema(self, codec: Codec, cell_size: usize) -> Result<EcSchema, PolicyFault> {
+        EcSchema::new(codec, self.data, self.parity, cell_size)
+    }
 }
 
 impl Message<'_> {
@@ -70,39 +76,24 @@ fn read_id<'a>(id: &str) -> Result<Message<'a>, Fault> {
     })
 }
 
-// A question about cells or matrices.
-fn read_code<'a>(words: &'a [&'a str]) -> Result<Question<'a>, Fault> {
-    match words {
-        ["encode", d, p, cells @ ..] => Ok(Question::Encode(Codec::Rs, read_units(d, p)?, cells)),
-        ["xor", d, cells @ ..] => Ok(Question::Encode(Codec::Xor, read_units(d, "1")?, cells)),
-        ["matrix", d, p] => Ok(Question::Matrix(read_units(d, p)?)),
-        ["inverse", d, p, rows @ ..] => Ok(Question::Inverse(read_units(d, p)?, rows)),
-        _ => Err(Fault::Form),
-    }
-}
-
-// A question about a scheme, or about shards under it.
-fn read_scheme<'a>(words: &'a [&'a str]) -> Result<Question<'a>, Fault> {
-    match words {
-        ["decode", c, d, p, s, shards @ ..] => {
-            Ok(Question::Decode(read_message(0, [*c, *d, *p, *s])?, shards))
-        }
-        ["shards", d, p, s, len] => Ok(Question::Shards(
-            read_units(d, p)?,
-            s.parse()?,
-            len.parse()?,
-        )),
-        ["policy", id] => Ok(Question::Policy(read_id(id)?)),
-        ["policy", id, c, d, p, s] => {
-            Ok(Question::Policy(read_message(id.parse()?, [*c, *d, *p, *s])?))
-        }
-        _ => Err(Fault::Form),
-    }
-}
-
 pub(crate) fn read_question<'a>(words: &'a [&'a str]) -> Result<Question<'a>, Fault> {
-    match words {
-        ["encode" | "xor" | "matrix" | "inverse", ..] => read_code(words),
-        _ => read_scheme(words),
-    }
+    let question = match words {
+        ["encode", d, p, cells @ ..] => Question::Encode(Codec::Rs, read_units(d, p)?, cells),
+        ["xor", d, cells @ ..] => Question::Encode(Codec::Xor, read_units(d, "1")?, cells),
+        ["matrix", d, p] => Question::Matrix(read_units(d, p)?),
+        ["inverse", d, p, rows @ ..] => Question::Inverse(read_units(d, p)?, rows),
+        ["decode", c, d, p, s, shards @ ..] => {
+            Question::Decode(read_message(0, [*c, *d, *p, *s])?, shards)
+        }
+        ["shards", d, p, s, len] => {
+            Question::Shards(read_units(d, p)?, s.parse()?, len.parse()?)
+        }
+        ["policy", id] => Question::Policy(read_id(id)?),
+        ["policy", id, c, d, p, s] => {
+            Question::Policy(read_message(id.parse()?, [*c, *d, *p, *s])?)
+        }
+        // Stays: (d) nothing is handed on here: words of another form are a fault.
+        _ => return Err(Fault::Form),
+    };
+    Ok(question)
 }

@@ -1,21 +1,20 @@
 // Parity made from data cells, and data cells made again from shards.
 ghost use Rattle.std.specs.Prelude.{◌<◌};
 
+use crate::answer::Answer;
 use crate::fault::Fault;
-use crate::hex::{read_bytes, write_bytes};
+use crate::hex::read_bytes;
 use crate::question::Units;
 use policy::{Codec, EcSchema};
-use std::alloc::Global;
+use std::alloc::{AllocError, Global};
+use std::{array, iter};
 use stripe::{encode, recover};
 
 // The bytes of a shard that is there.
 type Shard = Option<Vec<u8>>;
 
-fn add_zeros(row: &mut Vec<u8>, count: usize) -> Result<(), Fault> {
-    for _ in 0..count {
-        row.push(0)?;
-    }
-    Ok(())
+fn add_zeros(row: &mut Vec<u8>, count: usize) -> Result<(), AllocError> {
+    row.extend(iter::repeat_n(0, count))
 }
 
 // The data cells of a row, with room for its parity cells after them.
@@ -32,70 +31,31 @@ fn lay_data(heap: Global, schema: EcSchema, cells: &[&str]) -> Result<Vec<u8>, F
     Ok(row)
 }
 
-// The parity cells of the data cells, which are all as long as the first.
-pub(crate) fn write_parity(
-    heap: Global,
-    out: &mut String,
-    codec: Codec,
-    units: Units,
-    cells: &[&str],
-) -> Result<(), Fault> {
-    let digits = match cells.first() {
-        Some(word) => word.len(),
-        None => 0,
-    };
-    let schema = EcSchema::new(codec, units.data, units.parity, digits / 2)?;
-    if cells.len() != units.data {
-        return Err(Fault::Form);
-    }
-    let mut row = lay_data(heap, schema, cells)?;
-    encode(schema, row.as_mut_slice())?;
-    for cell in row.as_slice().chunks(schema.cell_size).skip(units.data) {
-        write_bytes(out, cell)?;
-    }
-    Ok(())
-}
-
 // A shard that is missing is written as a dash.
-fn read_shards(heap: Global, words: &[&str]) -> Result<Vec<Shard>, Fault> {
-    let mut shards = Vec::new(heap);
-    for word in words {
-        let shard = match *word {
-            "-" => None,
-            bytes => Some(read_bytes(heap, bytes)?),
-        };
-        shards.push(shard)?;
+fn read_shard(heap: Global, word: &str) -> Result<Shard, Fault> {
+    match word {
+        "-" => Ok(None),
+        bytes => Ok(Some(read_bytes(heap, bytes)?)),
     }
-    Ok(shards)
 }
 
 // How many rows the shards have, which are all as long; with no shard there is still a row to ask for.
 fn count_rows(shards: &[Shard], cell_size: usize) -> Result<usize, Fault>
     requires { 0 < cell_size }
 {
-    let mut found = None;
-    for shard in shards {
-        if let Some(bytes) = shard {
-            let len = bytes.len();
-            if len % cell_size != 0 || found.unwrap_or(len) != len {
-                return Err(Fault::Form);
-            }
-            found = Some(len);
-        }
+    let mut lens = shards.iter().flatten().map(|bytes| bytes.len());
+    let Some(len) = lens.next() else {
+        return Ok(1);
+    };
+    if len % cell_size != 0 || lens.any(|other| other != len) {
+        return Err(Fault::Form);
     }
-    match found {
-        Some(len) => Ok(len / cell_size),
-        None => Ok(1),
-    }
+    Ok(len / cell_size)
 }
 
 // Which of the cells of each row are there.
 fn flags(shards: &[Shard]) -> [bool; 16] {
-    let mut there = [false; 16];
-    for (flag, shard) in there.iter_mut().zip(shards.iter()) {
-        *flag = shard.is_some();
-    }
-    there
+    array::from_fn(|i| matches!(shards.get(i), Some(Some(_))))
 }
 
 // The cells of a row, zeros where one is missing.
@@ -107,9 +67,11 @@ fn lay_row(heap: Global, shards: &[Shard], cell_size: usize, at: usize) -> Resul
         match shard {
             None => add_zeros(&mut row, cell_size)?,
             Some(bytes) => {
-                let Some(cell) = bytes.as_slice().chunks(cell_size).nth(at) else {
-                    return Err(Fault::Form);
-                };
+                let cell = bytes
+                    .as_slice()
+                    .chunks(cell_size)
+                    .nth(at)
+                    .ok_or(Fault::Form)?;
                 row.extend_from_slice(cell)?;
             }
         }
@@ -117,25 +79,56 @@ fn lay_row(heap: Global, shards: &[Shard], cell_size: usize, at: usize) -> Resul
     Ok(row)
 }
 
-// The data cells of all rows, row by row.
-pub(crate) fn write_data(
-    heap: Global,
-    out: &mut String,
-    schema: EcSchema,
-    words: &[&str],
-) -> Result<(), Fault> {
-    let s = schema.cell_size;
-    if words.len() != schema.data_units + schema.parity_units {
-        return Err(Fault::Form);
-    }
-    let shards = read_shards(heap, words)?;
-    let there = flags(shards.as_slice());
-    for at in 0..count_rows(shards.as_slice(), s)? {
-        let mut row = lay_row(heap, shards.as_slice(), s, at)?;
-        recover(schema, &there, row.as_mut_slice())?;
-        for cell in row.as_slice().chunks(s).take(schema.data_units) {
-            write_bytes(out, cell)?;
+impl Answer {
+    // The parity cells of the data cells, which are all as long as the first.
+    pub(crate) fn write_parity(
+        &mut self,
+        codec: Codec,
+        units: Units,
+        cells: &[&str],
+    ) -> Result<(), Fault> {
+        let digits = cells.first().map_or(0, |word| word.len());
+        let schema = units.schema(codec, digits / 2)?;
+        if cells.len() != units.data {
+            return Err(Fault::Form);
         }
+        let mut row = lay_data(self.heap(), schema, cells)?;
+        encode(schema, row.as_mut_slice())?;
+        let cells = row.as_slice().chunks(schema.cell_size);
+        for cell in cells.skip(units.data) {
+            self.write_bytes(cell.iter().copied())?;
+        }
+        Ok(())
     }
-    Ok(())
+
+    // The data cells of a row.
+    fn write_row_data(
+        &mut self,
+        schema: EcSchema,
+        shards: &[Shard],
+        at: usize,
+    ) -> Result<(), Fault> {
+        let mut row = lay_row(self.heap(), shards, schema.cell_size, at)?;
+        recover(schema, &flags(shards), row.as_mut_slice())?;
+        let cells = row.as_slice().chunks(schema.cell_size);
+        for cell in cells.take(schema.data_units) {
+            self.write_bytes(cell.iter().copied())?;
+        }
+        Ok(())
+    }
+
+    // The data cells of all rows, row by row.
+    pub(crate) fn write_data(&mut self, schema: EcSchema, words: &[&str]) -> Result<(), Fault> {
+        if words.len() != schema.units() {
+            return Err(Fault::Form);
+        }
+        let heap = self.heap();
+        let shards: Vec<Shard> = words
+            .iter()
+            .map(|word| read_shard(heap, word))
+            .try_collect(heap)?;
+        let shards = shards.as_slice();
+        let rows = count_rows(shards, schema.cell_size)?;
+        (0..rows).try_for_each(|at| self.write_row_data(schema, shards, at))
+    }
 }

@@ -1,10 +1,9 @@
 // All questions of a file asked, and how many answers are as expected.
 use crate::ask::ask;
 use crate::fault::Fault;
-use crate::lines::{Expected, Line, Source, read_line};
+use crate::lines::{Expected, Line, asks, read_line};
 use std::alloc::{AllocError, Global};
 use std::collections::BTreeMap;
-use std::io;
 
 #[derive(Drop)]
 pub(crate) struct Tally<'a> {
@@ -22,7 +21,7 @@ pub(crate) struct Tally<'a> {
 }
 
 // What became of a line.
-#[derive(Clone, Copy)]
+#[derive(Clone, Copy, PartialEq, Eq, Debug)]
 enum Outcome<'a> {
     Agrees,
     Listed(&'a str),
@@ -69,68 +68,42 @@ impl<'a> Tally<'a> {
     }
 }
 
-fn print_wrong(
-    rt: &HostRuntime,
-    number: usize,
-    question: &str,
-    expected: &str,
-    got: &str,
-) -> io::Result<()> {
-    println!(rt; "line {number}: {question}: expected {expected}, got {got}")
-}
-
-// Whether the library answers as expected; an answer that is not is printed.
-fn holds(rt: &HostRuntime, number: usize, question: &str, expected: &str) -> Result<bool, Fault> {
-    let answer = ask(rt.alloc(), question)?;
-    let right = answer.as_str() == expected;
-    if !right {
-        print_wrong(rt, number, question, expected, answer.as_str())?;
-    }
-    Ok(right)
-}
-
-fn check<'a>(rt: &HostRuntime, number: usize, line: Line<'a>) -> Result<Outcome<'a>, Fault> {
-    let (expected, right) = match line.expected {
+// An answer that is not the one expected is printed.
+fn check<'a>(rt: &HostRuntime, line: Line<'a>) -> Result<Outcome<'a>, Fault> {
+    let Line {
+        number,
+        question,
+        expected,
+    } = line;
+    let (expected, right) = match expected {
         Expected::Same(answer) => (answer, Outcome::Agrees),
         Expected::Listed { name, answer } => (answer, Outcome::Listed(name)),
         Expected::Nothing { name } => return Ok(Outcome::Unknown(name)),
     };
-    if holds(rt, number, line.question, expected)? {
-        Ok(right)
-    } else {
-        Ok(Outcome::Wrong)
+    let got = ask(rt.alloc(), question)?;
+    if got.as_str() == expected {
+        return Ok(right);
     }
-}
-
-// None of a line that asks nothing.
-fn check_text<'a>(
-    rt: &HostRuntime,
-    source: Source,
-    number: usize,
-    text: &'a str,
-) -> Result<Option<Outcome<'a>>, Fault> {
-    match read_line(source, text)? {
-        Some(line) => Ok(Some(check(rt, number, line)?)),
-        None => Ok(None),
-    }
+    println!(rt; "line {number}: {question}: expected {expected}, got {got}")?;
+    Ok(Outcome::Wrong)
 }
 
 // A line of another form ends the count, since its file is not the one expected.
-pub(crate) fn replay<'a>(
+pub(crate) fn replay<'a, F: Fn(&'a str, &'a str) -> Result<Expected<'a>, Fault>>(
     rt: &HostRuntime,
-    source: Source,
     text: &'a str,
-) -> Result<Tally<'a>, Fault> {
+    expect: F,
+) -> Result<Tally<'a>, Fault>
+    requires { F.IsAlwaysCallable expect }
+{
     let mut tally = Tally::new(rt.alloc());
-    for (i, text) in text.lines().enumerate() {
+    for (i, text) in text.lines().enumerate().filter(|(_, text)| asks(text)) {
         let number = i + 1;
-        let outcome = check_text(rt, source, number, text);
+        let outcome = read_line(number, text, &expect).and_then(|line| check(rt, line));
         if let Err(Fault::Form) = outcome {
             println!(rt; "line {number}: it has another form")?;
         }
-        if let Some(outcome) = outcome? {
-            tally.note(outcome)?;
-        }
+        tally.note(outcome?)?;
     }
     Ok(tally)
 }
