@@ -58,8 +58,12 @@ pub(crate) fn print_account(
     for (i, shard) in shards.iter().enumerate() {
         print_shard(rt, i, block.max_offset(i), *shard)?;
     }
-    (0..block.row_count())
-        .try_for_each(|row| print_row(rt, block.schema, row, &held.cells_there(row)))?;
+    (0..block.row_count()).try_for_each(|row| print_row(
+        rt,
+        block.schema,
+        row,
+        &held.cells_there(row),
+    ))?;
     let digest = Checksum::Crc32.of(bytes);
     println!(rt; "digest: CRC-32 {digest:08x}")
 }
