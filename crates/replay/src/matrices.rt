@@ -6,7 +6,7 @@ use crate::hex::begin_word;
 use crate::question::Units;
 use codes::{Code, Rs};
 use field::gf256::Gf256;
-use matrix::{Sides, invert};
+use matrix::{Matrix, Sides, invert};
 use std::alloc::Global;
 use std::fmt::Write;
 
@@ -56,13 +56,16 @@ pub(crate) fn write_inverse(
     let mut matrix = [ZERO; 256];
     <Rs as Code>::matrix(d, p, &mut matrix)?;
     let square = select(heap, &matrix[0..(d + p) * d], d, rows)?;
-    let sides = Sides {
-        rows: rows.len(),
-        cols: d,
+    let m = Matrix {
+        entries: square.as_slice(),
+        sides: Sides {
+            rows: rows.len(),
+            cols: d,
+        },
     };
     let mut work = [ZERO; 512];
     let mut inverse = [ZERO; 256];
-    invert(square.as_slice(), sides, &mut work, &mut inverse)?;
+    invert(m, &mut work, &mut inverse)?;
     for row in inverse.chunks(d).take(d) {
         write_row(out, row)?;
     }

@@ -14,7 +14,7 @@ use codes::{Code, Rs, Xor};
 use field::Field;
 use field::gf2::Gf2;
 use field::gf256::Gf256;
-use matrix::{Sides, act_on_cells, invert};
+use matrix::{Matrix, Sides, act_on_cells, invert};
 use policy::{Codec, EcSchema};
 
 // Each missing data cell becomes what its row of the inverse makes of the chosen cells.
@@ -30,10 +30,13 @@ fn fill_missing<F: Field>(
     requires cells { ((k : ℕ) → k < d → (flag there.now (slice_index chosen.now k) ≡ true) × ((slice_index chosen.now k + 1) * s ≤ length row.old)) × (d * s ≤ length row.old) }
     ensures { Filled d s (flag there.now) (λ c v. mixed F.Field.ops d (grid F.Field.ops.zero d inverse.now c) (λ k. v (slice_index chosen.now k))) (byte_at s row.old) (byte_at s row.new) }
 {
-    let sides = Sides { rows: d, cols: d };
+    let m = Matrix {
+        entries: inverse,
+        sides: Sides { rows: d, cols: d },
+    };
     for c in 0..d {
         if !there[c] {
-            let Ok(()) = act_on_cells(inverse, sides, c, chosen, s, c, row) else {
+            let Ok(()) = act_on_cells(m, c, chosen, s, c, row) else {
                 unreachable()
             };
         }
@@ -62,8 +65,11 @@ fn recover_by<C: Code>(
         unreachable()
     };
     select_rows(generator, d + p, d, chosen, square);
-    let sides = Sides { rows: d, cols: d };
-    let Ok(()) = invert(square, sides, work, inverse) else {
+    let m = Matrix {
+        entries: square,
+        sides: Sides { rows: d, cols: d },
+    };
+    let Ok(()) = invert(m, work, inverse) else {
         unreachable()
     };
     fill_missing(inverse, d, s, there, chosen, row);

@@ -11,7 +11,7 @@ use codes::{Code, Rs, Xor};
 use field::Field;
 use field::gf2::Gf2;
 use field::gf256::Gf256;
-use matrix::{Sides, act_on_cells};
+use matrix::{Matrix, Sides, act_on_cells};
 use policy::{Codec, EcSchema};
 
 // The cells of a row by number: the sources of every parity cell are the first of them.
@@ -26,12 +26,15 @@ fn encode_by<C: Code>(d: usize, p: usize, s: usize, row: &mut [u8], generator: &
     let Ok(()) = C::matrix(d, p, generator) else {
         unreachable()
     };
-    let sides = Sides {
-        rows: d + p,
-        cols: d,
+    let m = Matrix {
+        entries: generator,
+        sides: Sides {
+            rows: d + p,
+            cols: d,
+        },
     };
     for r in d..d + p {
-        let Ok(()) = act_on_cells(generator, sides, r, &CELLS, s, r, row) else {
+        let Ok(()) = act_on_cells(m, r, &CELLS, s, r, row) else {
             unreachable()
         };
     }
