@@ -6,7 +6,7 @@ use crate::fault::Fault;
 use crate::question::Units;
 use codes::{Code, GeneratorFault, Rs};
 use field::gf256::Gf256;
-use matrix::{Sides, invert};
+use matrix::{Matrix, Sides, invert};
 use std::alloc::{AllocError, Global};
 
 const ZERO: Gf256 = Gf256 { value: 0 };
@@ -54,14 +54,17 @@ impl Answer {
 
     pub(crate) fn write_inverse(&mut self, units: Units, rows: &[&str]) -> Result<(), Fault> {
         let square = select(self.heap(), units, rows)?;
-        let sides = Sides {
-            rows: rows.len(),
-            cols: units.data,
+        let m = Matrix {
+            entries: square.as_slice(),
+            sides: Sides {
+                rows: rows.len(),
+                cols: units.data,
+            },
         };
         // Stays: (a) the library works in buffers that it is lent.
         let mut work = [ZERO; 512];
         let mut inverse = [ZERO; 256];
-        invert(square.as_slice(), sides, &mut work, &mut inverse)?;
+        invert(m, &mut work, &mut inverse)?;
         for row in inverse.chunks(units.data).take(units.data) {
             self.write_row(row)?;
         }

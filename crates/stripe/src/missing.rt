@@ -13,7 +13,7 @@ use codes::{Code, Rs, Xor};
 use field::Field;
 use field::gf2::Gf2;
 use field::gf256::Gf256;
-use matrix::{Sides, act_on_cells, invert};
+use matrix::{Matrix, Sides, act_on_cells, invert};
 use policy::{Codec, EcSchema};
 
 // The matrices by which a row is made again, with room for 16 cells.
@@ -60,10 +60,13 @@ impl Chosen<'_> {
         } = self;
         let d = schema.data_units;
         let s = schema.cell_size;
-        let sides = Sides { rows: d, cols: d };
+        let m = Matrix {
+            entries: inverse,
+            sides: Sides { rows: d, cols: d },
+        };
         for (c, &here) in there[..d].iter().enumerate() {
             if !here {
-                let Ok(()) = act_on_cells(inverse, sides, c, cells, s, c, row) else {
+                let Ok(()) = act_on_cells(m, c, cells, s, c, row) else {
                     unreachable!()
                 };
             }
@@ -81,8 +84,11 @@ impl Chosen<'_> {
             unreachable!()
         };
         select_rows(&space.generator, self.cells, &mut space.square);
-        let sides = Sides { rows: d, cols: d };
-        let Ok(()) = invert(&space.square, sides, &mut space.work, &mut space.inverse) else {
+        let m = Matrix {
+            entries: &space.square,
+            sides: Sides { rows: d, cols: d },
+        };
+        let Ok(()) = invert(m, &mut space.work, &mut space.inverse) else {
             unreachable!()
         };
         self.fill_missing(&space.inverse, row);

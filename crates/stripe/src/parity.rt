@@ -10,7 +10,7 @@ use codes::{Code, Rs, Xor};
 use field::Field;
 use field::gf2::Gf2;
 use field::gf256::Gf256;
-use matrix::{Sides, act_on_cells};
+use matrix::{Matrix, Sides, act_on_cells};
 use policy::{Codec, EcSchema};
 use std::array;
 
@@ -40,11 +40,14 @@ fn encode_by<C: Code>(
     let Ok(()) = C::matrix(d, schema.parity_units, generator) else {
         unreachable!()
     };
-    let sides = Sides { rows: n, cols: d };
+    let m = Matrix {
+        entries: generator,
+        sides: Sides { rows: n, cols: d },
+    };
     let cells = cell_numbers();
     // Stays: r is the number of a parity cell, and nothing here is indexed by it.
     for r in d..n {
-        let Ok(()) = act_on_cells(generator, sides, r, &cells, s, r, row) else {
+        let Ok(()) = act_on_cells(m, r, &cells, s, r, row) else {
             unreachable!()
         };
     }

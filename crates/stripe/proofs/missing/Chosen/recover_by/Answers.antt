@@ -1,7 +1,6 @@
 use Rattle.std.proofs.Common.{◌≡◌, ℕ, ◌+◌, ◌*◌, ◌<◌, ◌≤◌, length, get_or, sym, refl, ◌∙◌, subst, arith}
 use Rattle.std.proofs.lemmas.Nat.{mul-le}
 use Rattle.matrix.specs.Grids.{grid}
-use Rattle.matrix.specs.Inverted.{square_of}
 use Rattle.stripe.specs.Coded.{byte_at, units}
 use Rattle.stripe.specs.There.{flag}
 use Rattle.stripe.proofs.Acting.{inverts, same_inverse, square_room, wide_room}
@@ -32,7 +31,7 @@ unreachable-requires-in_default-invert g c =
     let one = square_room d self.schema.parity_units self.schema.narrow in
     let two = wide_room d self.schema.parity_units self.schema.narrow in
     let rows = subst (λ (d : ℕ). (k j : ℕ) → k < d → j < d → grid O d c.select_rows.new.square k j ≡ grid O d c.matrix.new.out (get_or self.cells.now k 0) j) self.enough c.select_rows.ensures in
-    inverts g.C.F.Field.ops (square_of d) c.select_rows.new.square c.args.space.now.work c.args.space.now.inverse c.invert.new.work c.invert.new.out c.in_default-invert.field-0 c.in_default-invert.ensures
+    inverts g.C.F.Field.ops (record { rows = d; cols = d }) c.select_rows.new.square c.args.space.now.work c.args.space.now.inverse c.invert.new.work c.invert.new.out c.in_default-invert.field-0 c.in_default-invert.ensures
     (record { square = refl; some = omega arith; most = omega arith; matrix = omega arith; wide = omega arith; inverse = omega arith })
     b.0 (same_inverse g.met.C.F.Field.field d (λ k. grid O d c.matrix.new.out (at k)) (grid O d c.select_rows.new.square) b.0 rows b.1)
 
