@@ -98,7 +98,8 @@ for f, text in sources():
             if len(toks) >= 12:
                 bodies.setdefault(' '.join(toks), []).append((f, text, line, name))
         for m in re.finditer(r'\bfor (?!_)(\w+) in [^{\n]*\.\.[^{\n]*\{|\bwhile [^{\n]*\{|(?:\'\w+: )?\bloop \{', body):
-            add(3, f, text, line_of(text, at + m.start()), f'{name}: ' + m.group(0).rstrip(' {'))
+            if 'for ' not in m.group(0) or '..' in re.sub(r'\[[^\]]*\]', '', m.group(0)):
+                add(3, f, text, line_of(text, at + m.start()), f'{name}: ' + m.group(0).rstrip(' {'))
         for m in re.finditer(r'requires(?: \w+)? \{ (.*?) \}(?=\n)', head):
             for fact in re.split(r' × ', m.group(1)):
                 fact = re.sub(r'[()\s]+', ' ', re.sub(r'\.(now|old)', '', fact)).strip()

@@ -8,21 +8,19 @@ pub struct Sides {
     pub cols: usize,
 }
 
+// Each with the number that the refusal goes by outside the library.
 #[derive(Clone, Copy, PartialEq, Eq, Debug)]
 pub enum MatrixFault {
     // a side is 0, above 16, unlike another that it should equal, or does not fit its buffer
-    Sides,
+    Sides = 10,
     // the matrix has no inverse
-    Singular,
+    Singular = 11,
 }
 
 impl MatrixFault {
     pub fn number(self) -> u8
         ensures { result ≡ number_of self }
     {
-        match self {
-            MatrixFault::Sides => 10,
-            MatrixFault::Singular => 11,
-        }
+        self as u8
     }
 }

@@ -17,6 +17,7 @@ pub enum Codec {
 
 impl Codec {
     // Its name as a schema spells it.
+    // Stays: the names have small letters and a dash, which no derive writes.
     pub fn name(self) -> &'static str
         ensures { codec_of result.now ≡ Some self }
     {
@@ -28,12 +29,14 @@ impl Codec {
     }
 }
 
+// Stays: a derive would write the names of the cases.
 impl fmt::Display for Codec {
     fn fmt<W: fmt::Write>(&self, f: &mut fmt::Formatter<W>) -> fmt::Result {
         f.write_str(self.name())
     }
 }
 
+// Stays: there is no derive for it.
 impl FromStr for Codec {
     type Err = PolicyFault;
 
@@ -44,6 +47,7 @@ impl FromStr for Codec {
             "rs" => Ok(Codec::Rs),
             "rs-legacy" => Ok(Codec::RsLegacy),
             "xor" => Ok(Codec::Xor),
+            // Stays: nothing is handed on here: any other name is unknown.
             _ => Err(PolicyFault::Unknown),
         }
     }

@@ -77,6 +77,7 @@ pub fn policy_id(name: &str) -> Option<u32>
         "RS-LEGACY-6-3-1024k" => Some(3),
         "XOR-2-1-1024k" => Some(4),
         "RS-10-4-1024k" => Some(5),
+        // Stays: nothing is handed on here: any other name has no id.
         _ => None,
     }
 }

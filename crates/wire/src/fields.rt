@@ -8,6 +8,7 @@ use crate::rest::Rest;
 use crate::varints::read_varint;
 
 // What a field holds; a part is lent from the message, and begins at a place of it.
+// Stays: each number is the field's value, and stands for no kind.
 #[derive(Clone, Copy, PartialEq, Eq, Debug)]
 pub enum WireValue<'a> {
     Varint(u64),
@@ -53,6 +54,7 @@ impl<'a> Rest<'a> {
                 let number = u32::from_le_bytes(self.first_array()?);
                 Ok((WireValue::Fixed32(number), self.at + 4))
             }
+            // Stays: nothing is handed on here: there are no other wire types.
             _ => Err(WireFault::Malformed),
         }
     }

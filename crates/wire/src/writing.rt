@@ -10,16 +10,14 @@ use arrayvec::ArrayVec;
 #[derive(Clone, Copy, PartialEq, Eq, Debug)]
 pub enum WriteFault {
     // The buffer ends before the varint does.
-    Short,
+    Short = 5,
 }
 
 impl WriteFault {
     pub fn number(self) -> u8
         ensures { result ≡ write_number_of self }
     {
-        match self {
-            WriteFault::Short => 5,
-        }
+        self as u8
     }
 }
 
@@ -30,6 +28,7 @@ fn split_groups(value: u64) -> ArrayVec<u8, MOST_BYTES>
 {
     let mut groups = ArrayVec::new();
     let mut left = value;
+    // Stays: a number is divided here, and nothing is indexed.
     while left >= 128 {
         groups.push(128 + (left % 128) as u8);
         left /= 128;
