@@ -1,4 +1,4 @@
-use Rattle.std.proofs.Common.{◌≡◌, ℕ, ◌<◌, ◌≤◌, List, length, get_or, take, refl, sym, ap, ◌∙◌, ⊎_elim, arith}
+use Rattle.std.proofs.Common.{◌≡◌, ℕ, ◌<◌, ◌≤◌, List, length, get_or, take, refl, sym, ap, ◌∙◌, ⊎_elim, arith, rules}
 use Rattle.std.proofs.lemmas.List.{get_or-take, length-take-le}
 use Rattle.algebra.specs.Fields.{Ops, FieldLaws}
 use Rattle.algebra.specs.Matrices.{mixed}
@@ -56,15 +56,6 @@ returns g c =
       this = λ j l. c.loop-i.invariant.done j (omega arith);
       others = c.loop-i.invariant.others;
     } in (
-      record {
-        rows = (f.filled.right.some_rows, f.filled.right.most_rows);
-        cols = (f.filled.right.some_cols, f.filled.right.most_cols);
-        matrix = f.filled.enough;
-        row_within = omega arith;
-        one_each = omega arith;
-        some_bytes = omega arith;
-        target_within = omega arith;
-        sources_within = λ k l. omega (arith, within k (omega arith));
-      },
+      search rules,
       rw (f.cols, f.same) at acted,
     )
