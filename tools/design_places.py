@@ -3,13 +3,13 @@
 
 usage: design_places.py [FOLDER] [--list]    FOLDER has a crates/ (default: the current one)
 
-A place with a comment line `// Stays: ..` in the four lines above it counts as kept. What is counted:
+A place with a comment line `// Stays: ..` in the six lines above it counts as kept. What is counted:
 
  1 hand-written answers: an arm or a let-else that hands out Err or None for Err or None; a function that turns a kind
    into a number or text by a match; a variant that holds a bare number; a flag or a count for an Option or a Result
  2 twins: functions of 12 tokens and more that are alike but for names, types and numbers
  3 loops over a range, and while and loop
- 4 hand-written impls of From, TryFrom, FromStr, Display, Clone, Copy and comparisons, and plain types without derived equality
+ 4 hand-written impls of From, Display, Clone, Copy and comparisons, and plain types without derived equality
  5 facts that stand in three requires or more, and parameters of three functions or more of which one never stands without the other
  6 arrays and slices beside a count of what is in them
  7 a parameter whose kind picks the step to run
@@ -62,7 +62,7 @@ found = {n: [] for n in range(1, 9)}
 
 def add(point, f, text, line, what):
     lines = text.split('\n')
-    kept = any(l.strip().startswith('// Stays:') for l in lines[max(0, line - 5):line])
+    kept = any(l.strip().startswith('// Stays:') for l in lines[max(0, line - 7):line])
     found[point].append((str(f.relative_to(TOP)), line, what, kept))
 
 
@@ -112,7 +112,7 @@ for f, text in sources():
         m = re.search(r'\b(source|kind): (Source|Checksum)', sig)
         if m:
             add(7, f, text, line, f'{name}: ' + m.group(0))
-    for m in re.finditer(r'^impl(?:<[^>]*>)? (?:fmt::)?(From<[^>]*(?:<\w+>)?>|TryFrom<[^>]*>|FromStr|Display|Clone|Copy|PartialEq|Eq|PartialOrd|Ord|Debug) for', text, re.M):
+    for m in re.finditer(r'^impl(?:<[^>]*>)? (?:fmt::)?(From<[^>]*(?:<\w+>)?>|Display|Clone|Copy|PartialEq|Eq|PartialOrd|Ord|Debug) for', text, re.M):
         add(4, f, text, line_of(text, m.start()), 'impl ' + m.group(1))
     for m in re.finditer(r'#\[derive\(Clone, Copy\)\]\n(?:pub(?:\(crate\))? )?(struct|enum) (\w+)', text):
         add(4, f, text, line_of(text, m.start()), 'no derived equality: ' + m.group(2))

@@ -17,6 +17,7 @@ pub struct Running {
 
 impl Running {
     // A checksum of no bytes yet.
+    // Stays: the kind is kept with the register, and picks no step here.
     pub fn new(kind: Checksum) -> Running
         ensures { result ≡ running_of kind [] }
     {

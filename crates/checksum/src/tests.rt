@@ -3,6 +3,7 @@ use crate::kind::Checksum;
 use crate::running::Running;
 use std::array;
 
+// Stays: the kind is handed on, and picks no step here.
 fn in_parts(kind: Checksum, bytes: &[u8]) -> u32 {
     let half = bytes.len() / 2;
     let mut running = Running::new(kind);

@@ -18,6 +18,7 @@ impl Field for Gf2 {
         Gf2 { bit: true }
     }
 
+    // Stays: each field has its own sum; these two are alike in their letters only.
     fn add(self, other: Gf2) -> Gf2 {
         Gf2 {
             bit: self.bit ^ other.bit,

@@ -19,6 +19,7 @@ impl Field for Gf256 {
         Gf256 { value: 1 }
     }
 
+    // Stays: each field has its own sum; these two are alike in their letters only.
     fn add(self, other: Gf256) -> Gf256 {
         Gf256 {
             value: self.value ^ other.value,

@@ -8,6 +8,7 @@ use super::rows::{clear_column, pivot, scale_row, swap_rows};
 use super::shape::Shape;
 use field::Field;
 
+// Stays: the slice stands beside its shape here too, for the reason that rows.rt gives.
 // Row p comes up to k, is divided by its entry in column k, and clears that column in the other rows.
 fn reduce<F: Field>(m: &mut [F], shape: Shape, k: usize, p: usize)
     requires room { shape.rows * shape.cols ≤ length m.old }
@@ -35,6 +36,7 @@ pub(crate) fn eliminate<F: Field>(m: &mut [F], wide: Shape) -> bool
     ensures done { Eliminated F.Field.ops wide.rows (grid F.Field.ops.zero wide.cols m.old) (grid F.Field.ops.zero wide.cols m.new) result }
     ensures beyond { Beyond wide.rows wide.cols (grid F.Field.ops.zero wide.cols m.old) (grid F.Field.ops.zero wide.cols m.new) }
 {
+    // Stays: k numbers a column and the row that its pivot comes to, and each turn changes the whole matrix.
     for k in 0..wide.rows {
         let grid = Grid {
             entries: m,

@@ -44,6 +44,7 @@ impl<'a, F: Field> Grid<'a, F> {
     ghost use Rattle.std.specs.Prelude.{ℕ, ◌<◌, slice_index_or};
     ghost use Rattle.matrix.specs.Shapes.{entry_of};
 
+    // Stays: a row and a column are how an entry is named.
     pub(crate) fn entry(&self, row: usize, col: usize) -> F
         requires row { row < self.now.shape.rows }
         requires col { col < self.now.shape.cols }

@@ -9,6 +9,7 @@ use super::grid::{Grid, Matrix};
 use super::shape::Shape;
 use field::Field;
 
+// Stays: a and b are the two factors, and are never one thing.
 // A row of a times a column of b.
 fn row_times_column<F: Field>(a: &Grid<'_, F>, b: &Grid<'_, F>, row: usize, col: usize) -> F
     requires alike { b.now.shape.rows ≡ a.now.shape.cols }

@@ -58,6 +58,7 @@ pub(crate) fn clear_column<F: Field>(m: &mut [F], shape: Shape, k: usize)
     requires col { k < shape.cols }
     ensures { ClearTo F.Field.ops shape.cols shape.rows k (grid F.Field.ops.zero shape.cols m.old) (grid F.Field.ops.zero shape.cols m.new) }
 {
+    // Stays: r numbers a row of the slice that row k is read from while r is written.
     for r in 0..shape.rows {
         if r != k {
             clear_entry(m, shape, r, k);

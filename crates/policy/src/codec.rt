@@ -36,7 +36,6 @@ impl fmt::Display for Codec {
     }
 }
 
-// Stays: there is no derive for it.
 impl FromStr for Codec {
     type Err = PolicyFault;
 
