@@ -8,7 +8,7 @@ use super::fault::GeneratorFault;
 use field::Field;
 
 // Whether a row may have so many data and parity units.
-// Stays: the calls of a code take these two numbers, and what callers give is kept.
+// Stays: a type for the two numbers would be made at each call of a code and taken apart in it, and say no more.
 pub(crate) fn is_permitted(data_units: usize, parity_units: usize) -> bool
     ensures { Decides result (Permitted data_units parity_units) }
 {

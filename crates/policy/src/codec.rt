@@ -17,7 +17,7 @@ pub enum Codec {
 
 impl Codec {
     // Its name as a schema spells it.
-    // Stays: the names have small letters and a dash, which no derive writes.
+    // Stays: what it answers is promised, which no derive does.
     pub fn name(self) -> &'static str
         ensures { codec_of result.now ≡ Some self }
     {
@@ -29,7 +29,7 @@ impl Codec {
     }
 }
 
-// Stays: a derive would write the names of the cases.
+// Stays: a derive would have the three names a second time.
 impl fmt::Display for Codec {
     fn fmt<W: fmt::Write>(&self, f: &mut fmt::Formatter<W>) -> fmt::Result {
         f.write_str(self.name())
@@ -46,7 +46,7 @@ impl FromStr for Codec {
             "rs" => Ok(Codec::Rs),
             "rs-legacy" => Ok(Codec::RsLegacy),
             "xor" => Ok(Codec::Xor),
-            // Stays: nothing is handed on here: any other name is unknown.
+            // Stays: names are matched as literal cases, as the project asks; any other is unknown.
             _ => Err(PolicyFault::Unknown),
         }
     }

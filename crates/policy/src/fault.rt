@@ -2,10 +2,14 @@
 ghost use Rattle.std.specs.Prelude.{◌≡◌};
 ghost use Rattle.policy.specs.Faults.{number_of};
 
+use thiserror::Error;
+
 // Each with the number that the refusal goes by outside the library.
-#[derive(Clone, Copy, PartialEq, Eq, Debug)]
+#[derive(Clone, Copy, PartialEq, Eq, Debug, Error)]
 pub enum PolicyFault {
+    #[error("the policy, its id or its codec is unknown")]
     Unknown = 1,
+    #[error("the scheme breaks a limit")]
     Limit = 2,
 }
 

@@ -30,18 +30,16 @@ impl EcSchema {
         if !(1..=15).contains(&data_units)
             || !(1..=16 - data_units).contains(&parity_units)
             || !(1..=1_048_576).contains(&cell_size)
+            || (codec == Codec::Xor && parity_units != 1)
         {
             return Err(PolicyFault::Limit);
         }
-        match codec {
-            Codec::Xor if parity_units != 1 => Err(PolicyFault::Limit),
-            _ => Ok(EcSchema {
-                codec,
-                data_units,
-                parity_units,
-                cell_size,
-            }),
-        }
+        Ok(EcSchema {
+            codec,
+            data_units,
+            parity_units,
+            cell_size,
+        })
     }
 }
 

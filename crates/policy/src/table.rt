@@ -6,6 +6,7 @@ ghost use Rattle.policy.specs.Policies.{policy_of, id_of};
 
 use crate::codec::Codec;
 
+// Stays: the project asks for rows of these columns; a scheme in their place would be checked twice.
 #[derive(Clone, Copy, PartialEq, Eq, Debug)]
 pub struct Policy {
     pub id: u32,
@@ -77,7 +78,7 @@ pub fn policy_id(name: &str) -> Option<u32>
         "RS-LEGACY-6-3-1024k" => Some(3),
         "XOR-2-1-1024k" => Some(4),
         "RS-10-4-1024k" => Some(5),
-        // Stays: nothing is handed on here: any other name has no id.
+        // Stays: names are matched as literal cases, as the project asks; any other has no id.
         _ => None,
     }
 }

@@ -5,16 +5,18 @@ ghost use Rattle.rebuild.specs.declared.fault.RebuildFault.TheVariants.{Memory};
 
 use std::alloc::AllocError;
 use stripe::StripeFault;
+use thiserror::Error;
 
-#[derive(Clone, Copy, PartialEq, Eq, Debug)]
+#[derive(Clone, Copy, PartialEq, Eq, Debug, Error)]
 pub enum RebuildFault {
-    // the block is longer than 2^40 bytes
+    #[error("the block is longer than 2^40 bytes")]
     Block,
     // fewer cells of a row than data units are there
+    #[error("row {row} has only {cells} cells")]
     TooFew { row: u64, cells: usize },
-    // a data cell of the old codec is missing in a row
+    #[error("row {row} lacks a data cell, and the old codec makes none again")]
     Legacy { row: u64 },
-    // there is no memory for the block
+    #[error("there is no memory for it")]
     Memory,
 }
 

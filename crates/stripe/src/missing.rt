@@ -118,6 +118,7 @@ pub fn recover(schema: EcSchema, there: &[bool; 16], row: &mut [u8]) -> Result<u
         there,
         cells: &lowest[..schema.data_units],
     };
+    // Stays: the working matrices are lent by the one who knows the field, as the project asks.
     match schema.codec {
         Codec::RsLegacy => Err(StripeFault::Legacy),
         Codec::Rs => {

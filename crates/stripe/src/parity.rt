@@ -60,6 +60,7 @@ pub fn encode(schema: EcSchema, row: &mut [u8]) -> Result<(), StripeFault>
     ensures row_follows_the_code { RowFollows schema row.new result }
     ensures no_other_parity { OnlyParity schema row.new result }
 {
+    // Stays: the working matrix is lent by the one who knows the field, as the project asks.
     match schema.codec {
         Codec::RsLegacy => Err(StripeFault::Codec),
         Codec::Rs => encode_by::<Rs>(schema, row, &mut [Gf256 { value: 0 }; 256]),

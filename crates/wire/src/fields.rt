@@ -54,7 +54,7 @@ impl<'a> Rest<'a> {
                 let number = u32::from_le_bytes(self.first_array()?);
                 Ok((WireValue::Fixed32(number), self.at + 4))
             }
-            // Stays: nothing is handed on here: there are no other wire types.
+            // Stays: wire types are matched here alone; an enum of them would be read from the key by the same match.
             _ => Err(WireFault::Malformed),
         }
     }
