@@ -4,7 +4,7 @@ ghost use Rattle.algebra.specs.Matrices.{product};
 ghost use Rattle.matrix.specs.Products.{Multiplied};
 ghost use Rattle.matrix.specs.Shapes.{entry_of};
 
-use super::fault::{MatrixFault, Sides};
+use super::fault::MatrixFault;
 use super::grid::{Grid, Matrix};
 use super::shape::Shape;
 use field::Field;
@@ -34,10 +34,10 @@ pub fn multiply<F: Field>(
 {
     let first = Grid::try_from(a)?;
     let second = Grid::try_from(b)?;
-    let of = Shape::try_from(Sides {
-        rows: a.sides.rows,
-        cols: b.sides.cols,
-    })?;
+    let of = Shape {
+        rows: first.shape.rows,
+        cols: second.shape.cols,
+    };
     if b.sides.rows != a.sides.cols || out.len() < of.area() {
         return Err(MatrixFault::Sides);
     }
