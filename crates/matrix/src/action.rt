@@ -46,11 +46,7 @@ pub fn act_on_cells<F: Field>(
     if row >= grid.shape.rows || sources.len() < cols || cell_size == 0 {
         return Err(MatrixFault::Sides);
     }
-    let of = Cells {
-        bytes: cells,
-        size: cell_size,
-    };
-    let count = of.count();
+    let count = cells.len() / cell_size;
     if target >= count || !all_below(&sources[..cols], count) {
         return Err(MatrixFault::Sides);
     }

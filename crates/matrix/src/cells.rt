@@ -11,13 +11,6 @@ pub(crate) struct Cells<'a> {
 }
 
 impl Cells<'_> {
-    // How many cells lie in the buffer whole.
-    pub(crate) fn count(&self) -> usize
-        ensures { result ≡ length self.now.bytes.now / self.now.size }
-    {
-        self.bytes.len() / self.size
-    }
-
     // The place of byte i of a cell.
     pub(crate) fn place(&self, cell: usize, i: usize) -> usize
         requires cell { cell < length self.now.bytes.now / self.now.size }

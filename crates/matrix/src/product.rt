@@ -10,6 +10,7 @@ use super::shape::Shape;
 use field::Field;
 
 // Stays: a and b are the two factors, and are never one thing.
+// Stays: (c) tried the row of a as a slice: the closure that looks it up then has to write out all three facts below, and this function two of them still.
 // A row of a times a column of b.
 fn row_times_column<F: Field>(a: &Grid<'_, F>, b: &Grid<'_, F>, row: usize, col: usize) -> F
     requires alike { b.now.shape.rows ≡ a.now.shape.cols }

@@ -30,7 +30,7 @@ row_mixed K m n f g v e h = ap (λ (j : ℕ). mixed K j f v) e ∙ xors_same n (
 
 pub mix_byte-byte-requires-clause-within : goal.mix_byte-byte-requires-clause-within
 mix_byte-byte-requires-clause-within g c k h =
-    let e = each_within c.in_ok-grid.grid.shape.cols c.count-count.result c.args.sources.now (omega arith) (c.if-not-all_below.ensures.0 refl) k (omega arith) in
+    let e = each_within c.in_ok-grid.grid.shape.cols (length c.args.cells.now / c.args.cell_size) c.args.sources.now (omega arith) (c.if-not-all_below.ensures.0 refl) k (omega arith) in
     let len : length c.loop-i.cells ≡ length c.args.cells.now = omega arith in
     let count = ap (λ (n : ℕ). n / c.args.cell_size) len in
     omega arith
@@ -57,7 +57,7 @@ returns g c =
     let f = c.in_ok-grid.ensures in
     let row = c.row-entries.result.now in
     let w = grid 0 c.args.cell_size c.args.cells.now in
-    let within = each_within m.shape.cols c.count-count.result c.args.sources.now (omega arith) (c.if-not-all_below.ensures.0 refl) in
+    let within = each_within m.shape.cols (length c.args.cells.now / c.args.cell_size) c.args.sources.now (omega arith) (c.if-not-all_below.ensures.0 refl) in
     let acted : RowIs c.args.cell_size c.args.target (λ i. mixed K m.shape.cols (grid K.zero m.shape.cols m.entries.now c.args.row) (λ k. w (get_or c.args.sources.now k 0) i)) w (grid 0 c.args.cell_size c.loop-i.cells) = record {
       this = λ j l. c.loop-i.invariant.done j (omega arith)
           ∙ row_mixed K (length row) m.shape.cols (λ k. get_or row k K.zero) (grid K.zero m.shape.cols m.entries.now c.args.row) (λ k. w (get_or c.args.sources.now k 0) j) c.row-entries.ensures.len c.row-entries.ensures.entries;
