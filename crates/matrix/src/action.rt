@@ -1,9 +1,8 @@
 // A row of a matrix acting on cells of bytes that lie one after another in a buffer.
-ghost use Rattle.std.specs.Prelude.{◌≡◌, ◌+◌, ◌*◌, ◌/◌, ◌<◌, ◌≤◌, ◌↔◌, length, IsTrue, slice_index};
+ghost use Rattle.std.specs.Prelude.{◌≡◌, ◌+◌, ◌*◌, ◌/◌, ◌<◌, ◌≤◌, ◌↔◌, length, IsTrue, slice_index, slice_index_or};
 ghost use Rattle.algebra.specs.Matrices.{mixed};
 ghost use Rattle.matrix.specs.Acted.{Acted, EachBelow};
 ghost use Rattle.matrix.specs.Grids.{grid};
-ghost use Rattle.matrix.specs.Shapes.{entry_of};
 
 use super::cells::Cells;
 use super::fault::MatrixFault;
@@ -17,25 +16,16 @@ fn all_below(cells: &[usize], bound: usize) -> bool
     cells.iter().all(|cell| *cell < bound)
 }
 
-// What a row of the matrix makes of byte i of the source cells.
-fn mix_byte<F: Field>(
-    m: &Grid<'_, F>,
-    row: usize,
-    sources: &[usize],
-    of: Cells,
-    i: usize,
-    cells: &[u8],
-) -> u8
-    requires row { row < m.now.shape.rows }
-    requires buffer { of.len ≡ length cells.now }
-    requires byte { i < of.size }
-    requires one_each { m.now.shape.cols ≤ length sources.now }
-    requires within { EachBelow m.now.shape.cols (of.len / of.size) sources.now }
-    ensures { result ≡ mixed F.Field.ops m.now.shape.cols (entry_of F.Field.ops.zero m.now row) (λ k. grid 0 of.size cells.now (slice_index sources.now k) i) }
+// What a row of a matrix makes of byte i of the source cells.
+fn mix_byte<F: Field>(row: &[F], sources: &[usize], of: &Cells<'_>, i: usize) -> u8
+    requires byte { i < of.now.size }
+    requires one_each { length row.now ≤ length sources.now }
+    requires within { EachBelow (length row.now) (length of.now.bytes.now / of.now.size) sources.now }
+    ensures { result ≡ mixed F.Field.ops (length row.now) (λ c. slice_index_or row.now c F.Field.ops.zero) (λ k. grid 0 of.now.size of.now.bytes.now (slice_index sources.now k) i) }
 {
     let mut sum = 0u8;
-    for (x, cell) in m.row(row).iter().zip(sources) {
-        sum ^= x.act(cells[of.place(*cell, i)]);
+    for (x, cell) in row.iter().zip(sources) {
+        sum ^= x.act(of.byte(*cell, i));
     }
     sum
 }
@@ -56,18 +46,20 @@ pub fn act_on_cells<F: Field>(
     if row >= grid.shape.rows || sources.len() < cols || cell_size == 0 {
         return Err(MatrixFault::Sides);
     }
-    let of = Cells {
-        len: cells.len(),
-        size: cell_size,
-    };
-    let count = of.count();
+    let count = cells.len() / cell_size;
     if target >= count || !all_below(&sources[..cols], count) {
         return Err(MatrixFault::Sides);
     }
+    let entries = grid.row(row);
     // Stays: each byte of the target is made of bytes of the buffer that it is written into.
     for i in 0..cell_size {
-        let byte = mix_byte(&grid, row, sources, of, i, cells);
-        cells[of.place(target, i)] = byte;
+        let of = Cells {
+            bytes: cells,
+            size: cell_size,
+        };
+        let at = of.place(target, i);
+        let byte = mix_byte(entries, sources, &of, i);
+        cells[at] = byte;
     }
     Ok(())
 }

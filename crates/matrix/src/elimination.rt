@@ -8,7 +8,7 @@ use super::rows::{clear_column, pivot, scale_row, swap_rows};
 use super::shape::Shape;
 use field::Field;
 
-// Stays: the slice stands beside its shape here too, for the reason that rows.rt gives.
+// Stays: each step takes the lent slice beside its shape; a struct that held both would have each step ensure that it still holds this slice and this shape.
 // Row p comes up to k, is divided by its entry in column k, and clears that column in the other rows.
 fn reduce<F: Field>(m: &mut [F], shape: Shape, k: usize, p: usize)
     requires room { shape.rows * shape.cols ≤ length m.old }
@@ -29,6 +29,7 @@ fn reduce<F: Field>(m: &mut [F], shape: Shape, k: usize, p: usize)
     clear_column(m, shape, k);
 }
 
+// Stays: whether each column had a pivot is a yes or no; the caller refuses, once it has cleared its buffers.
 // Brings the left half to the identity: whether each column had a pivot.
 pub(crate) fn eliminate<F: Field>(m: &mut [F], wide: Shape) -> bool
     requires room { wide.rows * wide.cols ≤ length m.old }

@@ -12,8 +12,9 @@ pub struct Matrix<'a, F> {
     pub sides: Sides,
 }
 
+// Stays: (c) tried Clone and Copy too: a struct with a type parameter and a ghost field derives neither.
 // A matrix that was found to have an entry for each row and column.
-#[derive(Drop)]
+#[derive(PartialEq, Eq, Debug, Drop)]
 pub(crate) struct Grid<'a, F> {
     pub(crate) entries: &'a [F],
     pub(crate) shape: Shape,

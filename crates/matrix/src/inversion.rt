@@ -26,7 +26,7 @@ fn wide_entry<F: Field>(m: &Grid<'_, F>, row: usize, col: usize) -> F
     }
 }
 
-// The same where the matrix is a square and the buffers have room.
+// The inverse of a square matrix into out, where the buffers have room.
 fn invert_square<F: Field>(
     m: &Grid<'_, F>,
     work: &mut [F],

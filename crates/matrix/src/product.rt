@@ -4,12 +4,13 @@ ghost use Rattle.algebra.specs.Matrices.{product};
 ghost use Rattle.matrix.specs.Products.{Multiplied};
 ghost use Rattle.matrix.specs.Shapes.{entry_of};
 
-use super::fault::{MatrixFault, Sides};
+use super::fault::MatrixFault;
 use super::grid::{Grid, Matrix};
 use super::shape::Shape;
 use field::Field;
 
 // Stays: a and b are the two factors, and are never one thing.
+// Stays: (c) tried the row of a as a slice: the closure that looks it up then has to write out all three facts below, and this function two of them still.
 // A row of a times a column of b.
 fn row_times_column<F: Field>(a: &Grid<'_, F>, b: &Grid<'_, F>, row: usize, col: usize) -> F
     requires alike { b.now.shape.rows ≡ a.now.shape.cols }
@@ -34,10 +35,10 @@ pub fn multiply<F: Field>(
 {
     let first = Grid::try_from(a)?;
     let second = Grid::try_from(b)?;
-    let of = Shape::try_from(Sides {
-        rows: a.sides.rows,
-        cols: b.sides.cols,
-    })?;
+    let of = Shape {
+        rows: first.shape.rows,
+        cols: second.shape.cols,
+    };
     if b.sides.rows != a.sides.cols || out.len() < of.area() {
         return Err(MatrixFault::Sides);
     }

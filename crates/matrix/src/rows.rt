@@ -43,7 +43,7 @@ fn clear_entry<F: Field>(m: &mut [F], shape: Shape, row: usize, k: usize)
     ensures { RowIs shape.cols row (λ c. F.Field.ops.minus (grid F.Field.ops.zero shape.cols m.old row c) (F.Field.ops.times (grid F.Field.ops.zero shape.cols m.old row k) (grid F.Field.ops.zero shape.cols m.old k c))) (grid F.Field.ops.zero shape.cols m.old) (grid F.Field.ops.zero shape.cols m.new) }
 {
     let by = m[shape.place(row, k)];
-    // Stays: both rows lie in one slice; parts cut from it take a case for either order of the rows, and are no plainer.
+    // Stays: (c) tried a copy of the lead row in an array: a part of it asks that F fits in memory, which no bound here gives; parts cut from the one slice take a case for either order of the rows.
     for c in 0..shape.cols {
         let at = shape.place(row, c);
         let lead = shape.place(k, c);

@@ -8,7 +8,7 @@ use field::Field;
 fn is_side(n: usize) -> bool
     ensures { IsTrue result ↔ ((0 < n) × (n ≤ 16)) }
 {
-    n > 0 && n <= 16
+    (1..=16).contains(&n)
 }
 
 // The sides of a matrix that a caller lends, or of one that has an identity at its right.

@@ -6,4 +6,4 @@ use Rattle.matrix.proofs.action.mix_byte.Given as goal
 abbrev pub invariant-loop-x : goal.invariant-loop-x
 invariant-loop-x g l =
     let K = g.F.Field.ops in
-    l.sum ≡ mixed K (length l.yielded) (grid K.zero l.m.shape.cols l.m.entries.now l.fn.row) (λ k. grid 0 l.of.size l.cells (get_or l.sources k 0) l.i)
+    l.sum ≡ mixed K (length l.yielded) (λ c. get_or l.row c K.zero) (λ k. grid 0 l.of.size l.of.bytes.now (get_or l.sources k 0) l.i)

@@ -9,13 +9,12 @@ returns g c =
     let K = g.F.Field.ops in
     let a = c.in_ok-first.ensures in
     let b = c.in_ok-second.ensures in
-    let of = c.in_ok-of.ensures in
     let first = c.in_ok-first.first in
     let second = c.in_ok-second.second in (
       search rules,
       λ r j h l.
           let e = c.fill.ensures.entries r j (omega arith) (omega arith) in
-          let p : grid K.zero c.in_ok-of.of.cols c.fill.new.out r j ≡ product K first.shape.cols (entry_of K.zero first) (entry_of K.zero second) r j = search rules in
-          rw (of.cols, a.cols, a.same, b.cols, b.same) at p,
-      rw (of.rows, of.cols) at c.fill.ensures.beyond,
+          let p : grid K.zero second.shape.cols c.fill.new.out r j ≡ product K first.shape.cols (entry_of K.zero first) (entry_of K.zero second) r j = search rules in
+          rw (a.cols, a.same, b.cols, b.same) at p,
+      rw (a.rows, b.cols) at c.fill.ensures.beyond,
     )
