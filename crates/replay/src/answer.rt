@@ -6,17 +6,17 @@ use std::alloc::{AllocError, Global};
 use std::fmt::Display;
 
 // What is written as two hex digits.
-pub(crate) trait Byte: Copy {
+pub(crate) trait TwoDigits: Copy {
     fn byte(self) -> u8;
 }
 
-impl Byte for u8 {
+impl TwoDigits for u8 {
     fn byte(self) -> u8 {
         self
     }
 }
 
-impl Byte for Gf256 {
+impl TwoDigits for Gf256 {
     fn byte(self) -> u8 {
         self.value
     }
@@ -56,7 +56,7 @@ impl Answer {
     }
 
     // A word for each part.
-    pub(crate) fn write_parts<'a, B: Byte + 'a, I: Iterator<Item = &'a [B]>>(
+    pub(crate) fn write_parts<'a, B: TwoDigits + 'a, I: Iterator<Item = &'a [B]>>(
         &mut self,
         parts: I,
     ) -> Result<(), AllocError>
