@@ -1,6 +1,6 @@
 // What a register becomes as bytes are fed to it, by a table of what each byte becomes when its eight bits leave.
-ghost use Rattle.std.specs.Prelude.{◌≡◌, bit_xor};
-ghost use Rattle.checksum.specs.Sums.{generator};
+ghost use Rattle.std.specs.Prelude.{◌≡◌, ℕ, bit_xor};
+ghost use Rattle.checksum.specs.Sums.{generator, IsTableOf};
 ghost use Rattle.crcmath.specs.Registers.{steps, fed};
 
 use crate::kind::Checksum;
@@ -23,24 +23,24 @@ static CRC32: [u32; 256] =
 static CRC32C: [u32; 256] =
     table!(0; 0xF26B_8303, 0xE13B_70F7, 0xC79A_971F, 0x8AD9_58CF, 0x105E_C76F, 0x20BD_8EDE, 0x417B_1DBC, 0x82F6_3B78);
 
+// The register after one more byte, by the table of a generator.
+#[tactic(auto, using(crcmath::proofs::Bytes::byte_fed))]
+fn feed_byte(table: &[u32; 256], register: u32, byte: u8) -> u32
+    ensures { (g : ℕ) → IsTableOf g table.now → result ≡ steps g 8 (bit_xor register byte) }
+{
+    let low = (register ^ u32::from(byte)) % 256;
+    (register >> 8) ^ table[low as usize]
+}
+
 impl Checksum {
-    // What a byte becomes when its eight bits leave.
-    fn entry(self, byte: u8) -> u32
-        ensures { result ≡ steps (generator self) 8 byte }
+    // What each byte becomes when its eight bits leave.
+    fn table(self) -> &'static [u32; 256]
+        ensures { IsTableOf (generator self) result.now }
     {
         match self {
-            Checksum::Crc32 => CRC32[byte as usize],
-            Checksum::Crc32c => CRC32C[byte as usize],
+            Checksum::Crc32 => &CRC32,
+            Checksum::Crc32c => &CRC32C,
         }
-    }
-
-    // The register after one more byte.
-    #[tactic(auto, using(crcmath::proofs::Bytes::byte_fed))]
-    fn feed_byte(self, register: u32, byte: u8) -> u32
-        ensures { result ≡ steps (generator self) 8 (bit_xor register byte) }
-    {
-        let low = (register ^ u32::from(byte)) % 256;
-        (register >> 8) ^ self.entry(low as u8)
     }
 
     // The register after more bytes.
@@ -48,8 +48,7 @@ impl Checksum {
     pub(crate) fn feed(self, register: u32, bytes: &[u8]) -> u32
         ensures { result ≡ fed (generator self) register bytes.now }
     {
-        bytes
-            .iter()
-            .fold(register, |register, byte| self.feed_byte(register, *byte))
+        let table = self.table();
+        bytes.iter().fold(register, |register, byte| feed_byte(table, register, *byte))
     }
 }

@@ -1,8 +1,26 @@
 // The words of an answer, as the data files write them: parted by one space, bytes as two hex digits each.
 ghost use Rattle.std.specs.Iterator.{IsFinite};
 
+use field::gf256::Gf256;
 use std::alloc::{AllocError, Global};
 use std::fmt::Display;
+
+// What is written as two hex digits.
+pub(crate) trait TwoDigits: Copy {
+    fn byte(self) -> u8;
+}
+
+impl TwoDigits for u8 {
+    fn byte(self) -> u8 {
+        self
+    }
+}
+
+impl TwoDigits for Gf256 {
+    fn byte(self) -> u8 {
+        self.value
+    }
+}
 
 #[derive(Drop)]
 pub(crate) struct Answer {
@@ -37,13 +55,19 @@ impl Answer {
         write!(self.text, "{word}")
     }
 
-    pub(crate) fn write_bytes<I: Iterator<Item = u8>>(&mut self, bytes: I) -> Result<(), AllocError>
-        requires can { I.can_next bytes }
-        requires ends { IsFinite (I.remaining bytes) }
+    // A word for each part.
+    pub(crate) fn write_parts<'a, B: TwoDigits + 'a, I: Iterator<Item = &'a [B]>>(
+        &mut self,
+        parts: I,
+    ) -> Result<(), AllocError>
+        requires can { I.can_next parts }
+        requires ends { IsFinite (I.remaining parts) }
     {
-        self.begin_word()?;
-        for byte in bytes {
-            write!(self.text, "{byte:02x}")?;
+        for part in parts {
+            self.begin_word()?;
+            for entry in part {
+                write!(self.text, "{:02x}", entry.byte())?;
+            }
         }
         Ok(())
     }

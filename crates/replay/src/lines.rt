@@ -64,7 +64,7 @@ pub(crate) fn asks(line: &str) -> bool {
     !line.is_empty() && !line.starts_with('#')
 }
 
-// By how its file writes what is expected.
+// A line of QUESTION => TEXT; `expect` reads from these what the file expects of the library.
 pub(crate) fn read_line<'a, F: Fn(&'a str, &'a str) -> Result<Expected<'a>, Fault>>(
     number: usize,
     line: &'a str,

@@ -22,6 +22,7 @@ const PARITY: &str = "parity-isal.txt";
 const ANSWERS: &str = "crate-answers.txt";
 
 // Parity that libisal made: whether the library makes the same.
+// Stays: (d) it prints other counts than `replay_answers`; they share the two calls at their head alone, and the last line.
 fn replay_parity(rt: &HostRuntime) -> Result<bool, Fault> {
     let text = fs::read_to_string(rt, PARITY)?;
     let tally = replay(rt, text.as_str(), expect_isal)?;

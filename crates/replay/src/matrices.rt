@@ -7,7 +7,7 @@ use crate::question::Units;
 use codes::{Code, GeneratorFault, Rs};
 use field::gf256::Gf256;
 use matrix::{Matrix, Sides, invert};
-use std::alloc::{AllocError, Global};
+use std::alloc::Global;
 
 const ZERO: Gf256 = Gf256 { value: 0 };
 
@@ -40,15 +40,9 @@ fn select(heap: Global, units: Units, rows: &[&str]) -> Result<Vec<Gf256>, Fault
 }
 
 impl Answer {
-    fn write_row(&mut self, row: &[Gf256]) -> Result<(), AllocError> {
-        self.write_bytes(row.iter().map(|entry| entry.value))
-    }
-
     pub(crate) fn write_matrix(&mut self, units: Units) -> Result<(), Fault> {
         let matrix = matrix_of(units)?;
-        for row in matrix.chunks(units.data).take(units.data + units.parity) {
-            self.write_row(row)?;
-        }
+        self.write_parts(matrix.chunks(units.data).take(units.data + units.parity))?;
         Ok(())
     }
 
@@ -65,9 +59,7 @@ impl Answer {
         let mut work = [ZERO; 512];
         let mut inverse = [ZERO; 256];
         invert(m, &mut work, &mut inverse)?;
-        for row in inverse.chunks(units.data).take(units.data) {
-            self.write_row(row)?;
-        }
+        self.write_parts(inverse.chunks(units.data).take(units.data))?;
         Ok(())
     }
 }

@@ -95,9 +95,7 @@ impl Answer {
         let mut row = lay_data(self.heap(), schema, cells)?;
         encode(schema, row.as_mut_slice())?;
         let cells = row.as_slice().chunks(schema.cell_size);
-        for cell in cells.skip(units.data) {
-            self.write_bytes(cell.iter().copied())?;
-        }
+        self.write_parts(cells.skip(units.data))?;
         Ok(())
     }
 
@@ -111,9 +109,7 @@ impl Answer {
         let mut row = lay_row(self.heap(), shards, schema.cell_size, at)?;
         recover(schema, &flags(shards), row.as_mut_slice())?;
         let cells = row.as_slice().chunks(schema.cell_size);
-        for cell in cells.take(schema.data_units) {
-            self.write_bytes(cell.iter().copied())?;
-        }
+        self.write_parts(cells.take(schema.data_units))?;
         Ok(())
     }
 
