@@ -8,6 +8,7 @@ use super::fault::GeneratorFault;
 use field::Field;
 
 // Whether a row may have so many data and parity units.
+// Stays: `policy` has these limits among those of a scheme, and neither crate stands on the other.
 // Stays: a type for the two numbers would be made at each call of a code and taken apart in it, and say no more.
 pub(crate) fn is_permitted(data_units: usize, parity_units: usize) -> bool
     ensures { Decides result (Permitted data_units parity_units) }

@@ -18,6 +18,7 @@ pub enum MatrixFault {
 }
 
 impl MatrixFault {
+    // Stays: a trait for the enums that number themselves would want a crate below them all, for this one line.
     pub fn number(self) -> u8
         ensures { result ≡ number_of self }
     {

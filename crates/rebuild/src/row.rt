@@ -30,6 +30,7 @@ impl<'a> HeldShards<'a> {
                 let from = row as usize * self.block.schema.cell_size;
                 &bytes[from..from + own]
             }
+            // Stays: a cell with no bytes of its own has no bytes; nothing is refused here.
             _ => &[],
         }
     }

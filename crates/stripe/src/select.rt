@@ -12,6 +12,7 @@ pub(crate) fn select_rows<F: Field>(generator: &[F], chosen: &[usize], square: &
     ensures { let d = length chosen.now in (k c : ℕ) → k < d → c < d → grid F.Field.ops.zero d square.new k c ≡ grid F.Field.ops.zero d generator.now (slice_index chosen.now k) c }
 {
     let d = chosen.len();
+    // Stays: (c) tried `chunks_mut`: after it a proof knows the length of the square and none of its entries.
     for (k, &r) in chosen.iter().enumerate() {
         square[k * d..k * d + d].copy_from_slice(&generator[r * d..r * d + d]);
     }

@@ -14,6 +14,7 @@ pub enum WriteFault {
 }
 
 impl WriteFault {
+    // Stays: a trait for the enums that number themselves would want a crate below them all, for this one line.
     pub fn number(self) -> u8
         ensures { result ≡ write_number_of self }
     {
