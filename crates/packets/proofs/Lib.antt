@@ -1,0 +1,4 @@
+pub mod Samples
+pub mod ResponseSamples
+pub mod FrameSamples
+pub mod WrittenSamples
