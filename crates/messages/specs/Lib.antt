@@ -1,0 +1,3 @@
+pub mod Told
+pub mod Gathering
+pub mod HeaderFields
