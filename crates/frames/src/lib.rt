@@ -14,3 +14,6 @@ mod payload;
 mod sums;
 
 pub use frame::read_frame;
+
+#[cfg(test)]
+mod tests;
