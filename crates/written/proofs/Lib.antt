@@ -1,0 +1,4 @@
+pub mod Responses
+pub mod Sums
+pub mod Puts
+pub mod Heads
