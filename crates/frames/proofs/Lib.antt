@@ -1,2 +1,3 @@
-pub mod Lengths
+pub mod Counts
 pub mod Runs
+pub mod Lengths

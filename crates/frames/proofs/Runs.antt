@@ -1,55 +1,21 @@
--- Runs of data: how many there are, and each beside its checksum. Assumes nothing.
-use Rattle.std.proofs.Common.{◌≡◌, ℕ, zero, suc, ◌+◌, ◌-◌, ◌*◌, ◌/◌, ◌<◌, ◌≤◌, min, Bool, true, not, ◌&&◌, eqb, leb, List, ◌++◌, length, take, drop, zip, refl, sym, ap, ap₂, ◌∙◌, arith, inl, inr, div-add-mod', mod-lt, mul-le-mul_right, suc-mul, zero-mul, length-drop}
-use Rattle.std.proofs.lemmas.Bool.{cases_lt, and_parts, leb-true}
+-- Runs of data, each beside its checksum. Assumes nothing.
+use Rattle.std.proofs.Common.{◌≡◌, ℕ, zero, suc, ◌+◌, ◌*◌, ◌/◌, ◌<◌, ◌≤◌, min, Bool, true, not, ◌&&◌, eqb, leb, List, ◌++◌, length, take, drop, zip, refl, sym, ap, ap₂, ◌∙◌, arith, suc-mul, zero-mul, length-drop}
+use Rattle.std.proofs.lemmas.Bool.{and_parts, leb-true}
 use Rattle.std.proofs.lemmas.Bool.Decides.{nat_tests}
-use Rattle.std.proofs.lemmas.Grind.{div_ceil_times, common_steps}
+use Rattle.std.proofs.lemmas.Grind.{common_steps}
 use Rattle.std.proofs.lemmas.Iterator.{YieldsList}
 use Rattle.std.proofs.lemmas.List.{drop-drop, get_or-take}
-use Rattle.std.specs.Int.{w32, div_ceil, from_be_bytes}
+use Rattle.std.specs.Int.{w32, from_be_bytes}
 use Rattle.std.specs.Iterator.{AlwaysYields}
 use Rattle.std.specs.List.{list_all, range_with_len}
 use Rattle.std.specs.Simd.{first_chunks}
 use Rattle.std.specs.Slice.Iter.{chunks_rest, chunks_size, chunks_steps}
 use Rattle.checksum.specs.Sums.{sum_of}
 use Rattle.packets.specs.declared.info.ChecksumInfo.{ChecksumInfo}
+use Rattle.frames.proofs.Counts.{count_none, count_some, count_less}
 use Rattle.packets.specs.Frames.{run_count, run_of, run_matches, enough_sums, sums_match}
 
--- so many runs are the data, and one less is not
-pub count_bounds : (c n : ℕ) → 0 < c → (n ≤ run_count c n * c) × (run_count c n * c < n + c)
-count_bounds c n h = let e = div-add-mod' (n + c - 1) c in let m = mod-lt (n + c - 1) h in (omega arith, omega arith)
-
-fewer : (c n p q : ℕ) → n ≤ p * c → q * c < n + c → p < q → ⊥
-fewer c n p q a b l = let m : suc p * c ≤ q * c = mul-le-mul_right c l in omega (arith, m, suc-mul p c)
-
-pub count_is : (c n q : ℕ) → 0 < c → n ≤ q * c → q * c < n + c → q ≡ run_count c n
-count_is c n q h a b =
-    let k = count_bounds c n h in
-    elim (cases_lt q (run_count c n)) [
-      | inl l ↦ absurd (fewer c n q (run_count c n) a k.1 l)
-      | inr g ↦ elim (cases_lt (run_count c n) q) [
-        | inl l ↦ absurd (fewer c n (run_count c n) q k.0 b l)
-        | inr f ↦ omega arith
-      ]
-    ]
-
-pub count_rounds_up : (c n : ℕ) → 0 < c → div_ceil n c ≡ run_count c n
-count_rounds_up c n h = let k = div_ceil_times n c h in count_is c n (div_ceil n c) h k.0 k.1
-
-pub count_none : (c n : ℕ) → 0 < c → run_count c n ≡ 0 → n ≡ 0
-count_none c n h e = let k = (count_bounds c n h).0 in omega (arith, rw e at k)
-
-pub count_less : (c n k : ℕ) → 0 < c → run_count c n ≡ suc k → run_count c (n - c) ≡ k
-count_less c n k h e =
-    let b = count_bounds c n h in
-    let a : n ≤ suc k * c = rw e at b.0 in
-    let d : suc k * c < n + c = rw e at b.1 in
-    sym (count_is c (n - c) k h (omega (arith, suc-mul k c)) (omega (arith, suc-mul k c)))
-
-pub ruleset counting = (count_rounds_up)
-
-count_some : (c n k : ℕ) → 0 < c → run_count c n ≡ suc k → 0 < n
-count_some c n k h e = let b : suc k * c < n + c = rw e at (count_bounds c n h).1 in omega (arith, suc-mul k c)
-
+-- what comes first, and what is left
 front : {A : Type 0} (c : ℕ) (xs ys zs : List A) → xs ≡ ys ++ zs → length ys ≡ min c (length xs) → ys ≡ take c xs
 front c xs ys zs e l = grind (arith, common_steps)
 
@@ -76,6 +42,7 @@ word_front bs = omega (arith, get_or-take 4 bs 0 0 (omega arith), get_or-take 4 
 abbrev pub matches : ChecksumInfo → List ℕ × List ℕ → Bool
 matches k p = eqb (from_be_bytes w32 p.1) (sum_of k.kind p.0)
 
+-- run after run, from one of them on
 runs_from : (k : ChecksumInfo) (n i m : ℕ) (sums d : List ℕ) → n ≤ m
     → list_all (matches k) (zip (first_chunks k.bytes_per_checksum n (drop (i * k.bytes_per_checksum) d)) (first_chunks 4 m (drop (i * 4) sums)))
     ≡ list_all (run_matches k sums d) (range_with_len i n)

@@ -8,6 +8,7 @@ use crate::payload::Asked;
 use messages::{Header, Message};
 use packets::{ChecksumInfo, Packet, PacketFault, PacketHeader};
 
+// What comes of a header's bytes.
 fn read_header(message: &[u8]) -> Result<PacketHeader, PacketFault>
     ensures { result ≡ header_of message.now }
 {

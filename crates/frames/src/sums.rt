@@ -5,7 +5,7 @@ ghost use Rattle.packets.specs.Frames.{enough_sums, sums_match};
 use packets::ChecksumInfo;
 
 // Whether runs are of some bytes, and each has a checksum.
-#[tactic(auto, using(crate::proofs::Runs::counting))]
+#[tactic(auto, using(crate::proofs::Counts::count_rounds_up))]
 pub(crate) fn has_enough_sums(info: ChecksumInfo, sums: &[u8], bytes: &[u8]) -> bool
     ensures { result ≡ enough_sums info sums.now bytes.now }
 {

@@ -25,7 +25,7 @@ head_is p h = marked p h.offset_in_block h.seqno h.data_len h.last_packet_in_blo
 pub head_length : (p : ℕ) (h : PacketHeader) → length (head_bytes p h) ≡ 31
 head_length p h = sym (ap length (head_is p h))
 
-header_length : (h : PacketHeader) → length (header_bytes h) ≡ 25
+pub header_length : (h : PacketHeader) → length (header_bytes h) ≡ 25
 header_length h = omega (arith, head_length 0 h)
 
 pub sums_size : (info : Option ChecksumInfo) (d : List ℕ) → length (sum_bytes info d) ≡ sums_len info (length d)
@@ -39,7 +39,7 @@ frame_parts info h d =
     append_assoc (head_bytes (payload_len info (length d)) h) s d
     ∙ ap₂ (λ (m n : ℕ). to_be_bytes w32 (4 + m + length d) ++ (to_be_bytes w16 n ++ (header_bytes h ++ (s ++ d)))) (sym (sums_size info d)) (sym (header_length h))
 
-frame_size : (info : Option ChecksumInfo) (h : PacketHeader) (d : List ℕ) → 27 + payload_len info (length d) ≡ length (frame_bytes info h d)
+pub frame_size : (info : Option ChecksumInfo) (h : PacketHeader) (d : List ℕ) → 27 + payload_len info (length d) ≡ length (frame_bytes info h d)
 frame_size info h d =
     let head = head_bytes (payload_len info (length d)) h in
     omega (arith, ap length (frame_parts info h d), length-append (head ++ sum_bytes info d) d, length-append head (sum_bytes info d), head_length (payload_len info (length d)) h, sums_size info d)

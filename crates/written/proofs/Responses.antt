@@ -37,25 +37,25 @@ unfolding varint_bytes groups_of
 bare_is = refl
 
 -- the message of a type and of a run, the message of that, and the response of that
-abbrev type_bytes : Checksum → List ℕ → List ℕ
+abbrev pub type_bytes : Checksum → List ℕ → List ℕ
 type_bytes t r = varint_bytes 8 ++ varint_bytes (type_number t) ++ (varint_bytes 16 ++ r ++ [])
 
-abbrev info_bytes : List ℕ → List ℕ
+abbrev pub info_bytes : List ℕ → List ℕ
 info_bytes xs = varint_bytes 10 ++ (varint_bytes (length xs) ++ xs) ++ (varint_bytes 16 ++ varint_bytes 0 ++ [])
 
-abbrev whole_bytes : List ℕ → List ℕ
+abbrev pub whole_bytes : List ℕ → List ℕ
 whole_bytes xs = varint_bytes 8 ++ varint_bytes 0 ++ (varint_bytes 34 ++ (varint_bytes (length xs) ++ xs) ++ [])
 
-type_is : (t : Checksum) (r : List ℕ) → type_bytes t r ≡ 8 ∷ type_number t ∷ 16 ∷ r
+pub type_is : (t : Checksum) (r : List ℕ) → type_bytes t r ≡ 8 ∷ type_number t ∷ 16 ∷ r
 unfolding varint_bytes groups_of
 type_is Crc32 r = ap (λ (e : List ℕ). 8 ∷ 1 ∷ 16 ∷ e) (append-nil r)
 type_is Crc32c r = ap (λ (e : List ℕ). 8 ∷ 2 ∷ 16 ∷ e) (append-nil r)
 
-info_is : (xs : List ℕ) → length xs < 128 → info_bytes xs ≡ 10 ∷ length xs ∷ (xs ++ 16 ∷ 0 ∷ [])
+pub info_is : (xs : List ℕ) → length xs < 128 → info_bytes xs ≡ 10 ∷ length xs ∷ (xs ++ 16 ∷ 0 ∷ [])
 info_is xs h = ap₂ (λ (t n : List ℕ). t ++ (n ++ xs) ++ (varint_bytes 16 ++ varint_bytes 0 ++ [])) (varint_small 10 (omega arith)) (varint_small (length xs) h)
     ∙ ap₂ (λ (t n : List ℕ). 10 ∷ length xs ∷ (xs ++ (t ++ n ++ []))) (varint_small 16 (omega arith)) (varint_small 0 (omega arith))
 
-whole_is : (xs : List ℕ) → length xs < 128 → whole_bytes xs ≡ 8 ∷ 0 ∷ 34 ∷ length xs ∷ xs
+pub whole_is : (xs : List ℕ) → length xs < 128 → whole_bytes xs ≡ 8 ∷ 0 ∷ 34 ∷ length xs ∷ xs
 whole_is xs h = ap₂ (λ (t n : List ℕ). t ++ varint_bytes 0 ++ (n ++ (varint_bytes (length xs) ++ xs) ++ [])) (varint_small 8 (omega arith)) (varint_small 34 (omega arith))
     ∙ ap₂ (λ (t n : List ℕ). 8 ∷ (t ++ (34 ∷ ((n ++ xs) ++ [])))) (varint_small 0 (omega arith)) (varint_small (length xs) h)
     ∙ ap (λ (e : List ℕ). 8 ∷ 0 ∷ 34 ∷ length xs ∷ e) (append-nil xs)

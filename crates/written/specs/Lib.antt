@@ -1,3 +1,4 @@
 pub mod Faults
 pub mod Fronts
 pub mod Frames
+pub mod Laws

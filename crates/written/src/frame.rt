@@ -3,6 +3,7 @@ ghost use Rattle.std.specs.Prelude.{◌≡◌, ◌+◌, ◌<◌, ◌≤◌, fals
 ghost use Rattle.packets.specs.Written.{bit_of, sum_bytes};
 ghost use Rattle.wire.specs.Writes.{overwritten};
 ghost use Rattle.written.specs.Frames.{empty_runs, head_bytes, header_with, frame_end, frame_over};
+ghost use Rattle.written.specs.Laws.{FramesReturn};
 
 use crate::bytes::{append, put};
 use crate::faults::FrameFault;
@@ -59,6 +60,7 @@ fn put_sums(info: Option<ChecksumInfo>, data: &[u8], at: usize, out: &mut [u8]) 
 }
 
 // Writes the frame of data that begin at an offset, and says how long it is; where it is refused, the buffer is left as it was.
+#[tactic(auto, using(crate::proofs::Back::frames_return))]
 pub fn write_frame(
     info: Option<ChecksumInfo>,
     offset_in_block: u64,
@@ -69,6 +71,7 @@ pub fn write_frame(
 ) -> Result<usize, FrameFault>
     ensures says_its_length { result ≡ frame_end info (header_with offset_in_block seqno last_packet_in_block «data».now) «data».now out.old }
     ensures writes_the_frame { out.new ≡ frame_over info (header_with offset_in_block seqno last_packet_in_block «data».now) «data».now out.old }
+    ensures is_read_back { FramesReturn }
 {
     let end = frame_length(info, offset_in_block, data.len(), out.len())?;
     let header = PacketHeader {

@@ -4,6 +4,7 @@ ghost use Rattle.arrayvec.specs.ArrayVec.{array_vec_len};
 ghost use Rattle.wire.specs.Varints.{varint_bytes};
 ghost use Rattle.packets.specs.Written.{type_number, response_bytes};
 ghost use Rattle.written.specs.Fronts.{opening_bytes, response_end, response_over};
+ghost use Rattle.written.specs.Laws.{ResponsesReturn};
 
 use crate::bytes::append;
 use arrayvec::ArrayVec;
@@ -63,9 +64,11 @@ fn response(info: Option<ChecksumInfo>) -> ArrayVec<u8, 24>
 }
 
 // Writes the response that says by what data are checked, and says how long it is; a buffer with no room is left as it was.
+#[tactic(auto, using(crate::proofs::ResponsesBack::responses_return))]
 pub fn write_response(info: Option<ChecksumInfo>, out: &mut [u8]) -> Result<usize, WriteFault>
     ensures says_its_length { result ≡ response_end info out.old }
     ensures writes_the_response { out.new ≡ response_over info out.old }
+    ensures is_read_back { ResponsesReturn }
 {
     let bytes = response(info);
     let end = bytes.len();
