@@ -9,7 +9,11 @@
 
 mod fields;
 mod headers;
+mod known;
 mod message;
+mod parts;
+mod responses;
 
 pub use headers::Header;
 pub use message::Message;
+pub use responses::Response;
