@@ -1,5 +1,7 @@
 // The frame of data with their checksums.
 ghost use Rattle.std.specs.Prelude.{◌≡◌, ◌+◌, ◌<◌, ◌≤◌, false, length, Some};
+ghost use Rattle.std.specs.Int.{w32, to_be_bytes};
+ghost use Rattle.checksum.specs.Sums.{sum_of};
 ghost use Rattle.packets.specs.Written.{bit_of, sum_bytes};
 ghost use Rattle.wire.specs.Writes.{overwritten};
 ghost use Rattle.written.specs.Frames.{empty_runs, head_bytes, header_with, frame_end, frame_over};
@@ -9,6 +11,7 @@ use crate::bytes::{append, put};
 use crate::faults::FrameFault;
 use crate::lengths::frame_length;
 use arrayvec::ArrayVec;
+use checksum::Checksum;
 use packets::{ChecksumInfo, PacketHeader};
 
 // The last mark as a varint.
@@ -33,6 +36,13 @@ fn head(payload: u32, header: PacketHeader) -> ArrayVec<u8, 31>
     bytes
 }
 
+// The bytes of a run's checksum, the highest first.
+fn run_sum(kind: Checksum, run: &[u8]) -> [u8; 4]
+    ensures { result ≡ to_be_bytes w32 (sum_of kind run.now) }
+{
+    kind.of(run).to_be_bytes()
+}
+
 // Puts the checksum of each run at a place of a buffer, and says the place after them.
 fn put_runs(info: ChecksumInfo, data: &[u8], at: usize, out: &mut [u8]) -> usize
     requires some { 0 < info.bytes_per_checksum }
@@ -42,7 +52,7 @@ fn put_runs(info: ChecksumInfo, data: &[u8], at: usize, out: &mut [u8]) -> usize
 {
     let mut end = at;
     for run in data.chunks(info.bytes_per_checksum as usize) {
-        end = put(&info.kind.of(run).to_be_bytes(), end, out);
+        end = put(&run_sum(info.kind, run), end, out);
     }
     end
 }
