@@ -50,6 +50,7 @@ pub fn read_frame(info: Option<ChecksumInfo>, due: u64, frame: &[u8]) -> Result<
     ensures reads_the_frame { result ≡ frame_of info due frame.now }
     ensures stays_inside { IfOk result (EndsAt (length frame.now)) }
 {
+    // Stays: a pattern names the six bytes; `first_chunk` would number them.
     let [p0, p1, p2, p3, h0, h1, ..] = *frame else {
         return Err(PacketFault::CutShort);
     };

@@ -29,6 +29,7 @@ impl Kind {
             (Kind::Response, 4) => Some(Kind::Info),
             (Kind::Checksums, 5) => Some(Kind::Options),
             (Kind::Info, 1) => Some(Kind::Checksum),
+            // Stays: nothing is handed on here: no other field holds a message.
             _ => None,
         }
     }
@@ -133,6 +134,7 @@ impl Gathered for PartsOf {
     ghost with_one = { with_parts_of };
 
     fn with(self, field: WireField<'_>) -> Result<PartsOf, WireFault> {
+        // Stays: (c) tried `and_then`: the search does not find what its closure answers.
         let known = match self.known {
             Ok(known) => known.open_held(self.kind, field),
             Err(fault) => Err(fault),
@@ -142,6 +144,7 @@ impl Gathered for PartsOf {
 }
 
 // The same for the messages two levels deeper.
+// Stays: the two walks differ in what each field is given to, and each level stands on the one before; as one it would call itself.
 #[derive(Clone, Copy, PartialEq, Eq, Debug)]
 struct DeeperOf {
     kind: Kind,
@@ -154,6 +157,7 @@ impl Gathered for DeeperOf {
     ghost with_one = { with_deeper_of };
 
     fn with(self, field: WireField<'_>) -> Result<DeeperOf, WireFault> {
+        // Stays: (c) tried `and_then`: the search does not find what its closure answers.
         let known = match self.known {
             Ok(known) => known.open_inner_held(self.kind, field),
             Err(fault) => Err(fault),

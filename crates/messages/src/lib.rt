@@ -5,6 +5,8 @@
 //   field 1, eight bytes         field 2 field 3 field 4, four bytes
 //
 //   PacketHeader { offset_in_block: 512, seqno: .., last_packet_in_block: false, data_len: 9 }
+//
+// A response holds messages, and these hold others: it is walked once for each level of them.
 #![tactic(auto)]
 
 mod fields;

@@ -19,10 +19,7 @@ pub(crate) fn low_bits(number: u64) -> u32
 pub(crate) fn is_among(value: Option<u64>, lowest: u32, highest: u32) -> bool
     ensures { result ≡ among lowest highest value }
 {
-    match value {
-        Some(number) => lowest <= low_bits(number) && low_bits(number) <= highest,
-        None => true,
-    }
+    value.is_none_or(|number| lowest <= low_bits(number) && low_bits(number) <= highest)
 }
 
 // BlockOpResponseProto.
@@ -41,7 +38,7 @@ impl Gathered for ResponseFields {
         match (field.number, field.value) {
             (1, WireValue::Varint(number)) => fields.status = Some(number),
             (6, WireValue::Varint(_)) | (2..=5, WireValue::Part { .. }) => {}
-            // Stays: the wire types of a message's fields are asked for at this place alone, here and below.
+            // Stays: the wire types of a message's fields are asked for here alone.
             (1..=6, _) => return Err(WireFault::Malformed),
             _ => {}
         }
@@ -71,6 +68,7 @@ impl Gathered for ChecksumsFields {
             (3, WireValue::Part { .. }) => fields.block_checksum = true,
             (4, WireValue::Varint(number)) => fields.crc_type = Some(number),
             (5, WireValue::Part { .. }) => {}
+            // Stays: the wire types of a message's fields are asked for here alone.
             (1..=5, _) => return Err(WireFault::Malformed),
             _ => {}
         }
@@ -94,6 +92,7 @@ impl Gathered for OptionsFields {
         match (field.number, field.value) {
             (1, WireValue::Varint(number)) => fields.block_checksum_type = Some(number),
             (2, WireValue::Varint(_)) => {}
+            // Stays: the wire types of a message's fields are asked for here alone.
             (1..=2, _) => return Err(WireFault::Malformed),
             _ => {}
         }
@@ -118,6 +117,7 @@ impl Gathered for InfoFields {
         match (field.number, field.value) {
             (1, WireValue::Part { .. }) => fields.checksum = true,
             (2, WireValue::Varint(_)) => fields.chunk_offset = true,
+            // Stays: the wire types of a message's fields are asked for here alone.
             (1..=2, _) => return Err(WireFault::Malformed),
             _ => {}
         }
@@ -142,6 +142,7 @@ impl Gathered for ChecksumFields {
         match (field.number, field.value) {
             (1, WireValue::Varint(number)) => fields.checksum_type = Some(number),
             (2, WireValue::Varint(number)) => fields.bytes_per_checksum = Some(number),
+            // Stays: the wire types of a message's fields are asked for here alone.
             (1..=2, _) => return Err(WireFault::Malformed),
             _ => {}
         }

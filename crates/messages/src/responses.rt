@@ -127,6 +127,7 @@ impl Message for Response {
 
     #[tactic(auto, using(crate::proofs::ResponseFold::response_reading))]
     fn read(message: &[u8], out: &mut Option<ChecksumInfo>) -> Result<(), PacketFault> {
+        // Stays: (c) tried `*out = ..?`: the search leaves what a refusal leaves of the record.
         match Known::of_response(message)?.told() {
             Ok(info) => *out = info,
             Err(fault) => return Err(fault),

@@ -64,6 +64,7 @@ fn put_sums(info: Option<ChecksumInfo>, data: &[u8], at: usize, out: &mut [u8]) 
     ensures puts_the_sums { out.new ≡ overwritten out.old at (sum_bytes info «data».now) }
 {
     match info {
+        // Stays: no checksums, and so nothing is put.
         None => at,
         Some(info) => put_runs(info, data, at, out),
     }

@@ -21,6 +21,7 @@ fn length_of_sums(info: Option<ChecksumInfo>, len: usize) -> usize
     ensures bound { result < 2 ^ 36 }
 {
     match info {
+        // Stays: no checksums have no bytes.
         None => 0,
         Some(info) => {
             let run = info.bytes_per_checksum as usize;

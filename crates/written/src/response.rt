@@ -13,6 +13,7 @@ use packets::ChecksumInfo;
 use wire::{WriteFault, write_varint};
 
 // The number of a type of checksum.
+// Stays: the numbers are a protocol's, and `checksum` knows of none.
 fn number_of_type(kind: Checksum) -> u8
     ensures { result ≡ type_number kind }
 {
@@ -28,6 +29,7 @@ fn varint(value: u32) -> ArrayVec<u8, 10>
     ensures value { result.items ≡ varint_bytes value }
     ensures short { array_vec_len result ≤ 10 }
 {
+    // Stays: `write_varint` writes into a buffer that it is lent.
     let mut bytes = [0; 10];
     let end = write_varint(value as u64, &mut bytes, 0).unwrap();
     let mut varint = ArrayVec::from(bytes);
