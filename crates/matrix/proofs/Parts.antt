@@ -1,9 +1,9 @@
 -- Rows of a matrix as parts of its list. Assumes nothing.
-use Rattle.std.proofs.Common.{◌≡◌, ℕ, suc, ◌+◌, ◌-◌, ◌*◌, ◌<◌, ◌≤◌, List, ◌++◌, length, get_or, take, drop, sym, ap, ◌∙◌, ⊎_elim, arith, length-drop, length-append}
+use Rattle.std.proofs.Common.{◌≡◌, ℕ, suc, ◌+◌, ◌-◌, ◌*◌, ◌<◌, ◌≤◌, List, ◌++◌, length, get_or, take, drop, sym, ap, subst, ◌∙◌, ⊎_elim, arith, length-drop, length-append}
 use Rattle.std.proofs.Math.Nat.{mul-le-mul_right}
 use Rattle.std.proofs.lemmas.Bool.{cases_lt}
 use Rattle.std.proofs.lemmas.List.{get_or-drop, get_or-take, get_or_append_left, get_or-append_right, length-take-le}
-use Rattle.matrix.specs.Grids.{grid, RowIs}
+use Rattle.matrix.specs.Grids.{grid, RowIs, EachEntry, Beyond}
 use Rattle.matrix.specs.Rows.{Exchanged}
 
 -- the k elements from the a-th on have become p
@@ -64,6 +64,25 @@ row_changed none cols row a k m p at wide same fits f h =
           ∙ ap f (get_or-take k (drop a m) c none (omega arith) ∙ get_or-drop a m c none ∙ ap (λ (j : ℕ). get_or m (j + c) none) at);
       others = put_others none cols row a k m p at wide len fits;
     }
+
+-- one row more was written: the rows up to it hold P, and what lies past the matrix is as it was
+module _ {F : Type 0} (none : F) (cols row a k : ℕ) (m p : List F) (at : a ≡ row * cols) (wide : k ≡ cols) (same : length p ≡ length (take k (drop a m))) (fits : a + k ≤ length m) where
+  part_length : length p ≡ k
+  part_length = same ∙ length-take-le k (drop a m) (omega (arith, length-drop a m))
+
+  pub rows_kept : length (put a k m p) ≡ length m
+  rows_kept = put_length none a k m p part_length fits
+
+  pub row_filled : (P : ℕ → ℕ → F → Type 0) → EachEntry row cols P (grid none cols m) → ((c : ℕ) → c < cols → P row c (get_or p c none)) → EachEntry (row + 1) cols P (grid none cols (put a k m p))
+  row_filled P above this r c hr hc = ⊎_elim
+      (λ l. subst (P r c) (sym (put_others none cols row a k m p at wide part_length fits r c hc (λ e. omega arith))) (above r c l hc))
+      (λ l.
+      let e : row ≡ r = omega arith in
+      subst (λ (i : ℕ). P i c (grid none cols (put a k m p) i c)) e (subst (P row c) (sym (put_row none cols row a k m p at wide part_length fits c hc)) (this c hc)))
+      (cases_lt r row)
+
+  pub beyond_kept : (rows : ℕ) (w : ℕ → ℕ → F) → row < rows → Beyond rows cols w (grid none cols m) → Beyond rows cols w (grid none cols (put a k m p))
+  beyond_kept rows w l b r c h hc = put_others none cols row a k m p at wide part_length fits r c hc (λ e. omega arith) ∙ b r c h hc
 
 -- the list is cut at row b, and a row of the front has changed places with that row
 module _ {F : Type 0} (none : F) (cols a b s t k : ℕ) (m u l x y : List F) (at_a : s ≡ a * cols) (at_b : t ≡ b * cols) (wide : k ≡ cols) (below : a < b) (fits : t + cols ≤ length m)

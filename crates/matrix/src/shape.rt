@@ -80,8 +80,12 @@ impl Shape {
         ensures entries { EachEntry self.rows self.cols (G.post at) (grid F.Field.ops.zero self.cols out.new) }
         ensures beyond { drop (self.rows * self.cols) out.new ≡ drop (self.rows * self.cols) out.old }
     {
-        for (i, x) in out[..self.area()].iter_mut().enumerate() {
-            *x = at(i / self.cols, i % self.cols);
+        // Stays: row counts the parts of the slice; a division for each entry would find them at a higher cost.
+        for row in 0..self.rows {
+            let start = self.place(row, 0);
+            for (col, x) in out[start..start + self.cols].iter_mut().enumerate() {
+                *x = at(row, col);
+            }
         }
     }
 
@@ -90,6 +94,8 @@ impl Shape {
         requires { self.rows * self.cols ≤ length out.old }
         ensures { out.new ≡ zeroed F.Field.ops.zero (self.rows * self.cols) out.old }
     {
-        self.fill(out, |_, _| F::zero());
+        for x in out[..self.area()].iter_mut() {
+            *x = F::zero();
+        }
     }
 }
