@@ -4,13 +4,14 @@ ghost use Rattle.std.specs.Prelude.{◌<◌, IfSome};
 use crate::fault::Fault;
 use std::alloc::Global;
 
-const DIGITS: [u8; 16] = *b"0123456789abcdef";
-
 fn value_of(digit: u8) -> Option<u8>
     ensures { IfSome result (λ v. v < 16) }
 {
-    let value = DIGITS.iter().position(|other| *other == digit)?;
-    Some(value as u8)
+    match digit {
+        b'0'..=b'9' => Some(digit - b'0'),
+        b'a'..=b'f' => Some(digit - b'a' + 10),
+        _ => None,
+    }
 }
 
 fn read_byte(digits: &[u8]) -> Option<u8> {
@@ -19,8 +20,9 @@ fn read_byte(digits: &[u8]) -> Option<u8> {
 }
 
 pub(crate) fn read_bytes(heap: Global, word: &str) -> Result<Vec<u8>, Fault> {
-    word.as_bytes()
-        .chunks(2)
-        .map(|digits| read_byte(digits).ok_or(Fault::Form))
-        .try_collect(heap)
+    let mut bytes = Vec::new(heap);
+    for digits in word.as_bytes().chunks(2) {
+        bytes.push(read_byte(digits).ok_or(Fault::Form)?)?;
+    }
+    Ok(bytes)
 }
