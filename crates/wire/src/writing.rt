@@ -1,11 +1,10 @@
 // Varints as they are written, in the shortest form.
-ghost use Rattle.std.specs.Prelude.{◌≡◌};
+ghost use Rattle.std.specs.Prelude.{◌≡◌, length};
 ghost use Rattle.wire.specs.Faults.{write_number_of};
 ghost use Rattle.wire.specs.Varints.{varint_bytes};
 ghost use Rattle.wire.specs.Writes.{place_after, bytes_after};
 
 use crate::varints::MOST_BYTES;
-use arrayvec::ArrayVec;
 
 #[derive(Clone, Copy, PartialEq, Eq, Debug)]
 pub enum WriteFault {
@@ -22,20 +21,28 @@ impl WriteFault {
     }
 }
 
-// The bytes of a number, of which all but the last say that another follows.
-#[tactic(auto, using(crate::proofs::Puts::splitting))]
-fn split_groups(value: u64) -> ArrayVec<u8, MOST_BYTES>
-    ensures { result.items ≡ varint_bytes value }
+// How many bytes the varint of a number has: so many groups of seven bits leave nothing of it.
+fn count_groups(value: u64) -> usize
+    ensures { result ≡ length (varint_bytes value) }
 {
-    let mut groups = ArrayVec::new();
+    (1..MOST_BYTES)
+        .find(|count| value >> (7 * *count) == 0)
+        .unwrap_or(MOST_BYTES)
+}
+
+// Writes the varint of a number over a part as long as it; all its bytes but the last say that another follows.
+#[tactic(auto, using(crate::proofs::Puts::putting))]
+fn put_groups(value: u64, part: &mut [u8])
+    requires { length part.old ≡ length (varint_bytes value) }
+    ensures { part.new ≡ varint_bytes value }
+{
+    let last = part.len() - 1;
     let mut left = value;
-    // Stays: a number is divided here, and nothing is indexed.
-    while left >= 128 {
-        groups.push(128 + (left % 128) as u8);
+    for byte in part[..last].iter_mut() {
+        *byte = 128 + (left % 128) as u8;
         left /= 128;
     }
-    groups.push(left as u8);
-    groups
+    part[last] = left as u8;
 }
 
 // Writes the varint of a number at a place, and says the place after it; a buffer with no room is left as it was.
@@ -43,11 +50,10 @@ pub fn write_varint(value: u64, out: &mut [u8], at: usize) -> Result<usize, Writ
     ensures says_the_place_after { result ≡ place_after value out.old at }
     ensures writes_the_varint { out.new ≡ bytes_after value out.old at }
 {
-    let groups = split_groups(value);
     let end = at
-        .checked_add(groups.len())
+        .checked_add(count_groups(value))
         .filter(|end| *end <= out.len())
         .ok_or(WriteFault::Short)?;
-    out[at..end].copy_from_slice(&groups);
+    put_groups(value, &mut out[at..end]);
     Ok(end)
 }
