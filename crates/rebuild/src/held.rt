@@ -5,7 +5,6 @@ ghost use Rattle.stripe.specs.There.{flag};
 ghost use Rattle.rebuild.specs.Shards.{whole_held, there_held};
 
 use cells::StripedBlock;
-use std::array;
 
 // A block and those of its shards that are held, by their index; one past the slice's end is not held.
 #[derive(Clone, Copy, PartialEq, Eq, Debug)]
@@ -43,6 +42,11 @@ impl<'a> HeldShards<'a> {
         ensures sixteen { length result ≡ 16 }
         ensures each_flag { (i : ℕ) → flag result i ≡ there_held self.entry row i }
     {
-        array::from_fn(|index| self.is_there(row, index))
+        // Stays: `array::from_fn` asks sixteen times, and a row may have two cells.
+        let mut there = [false; 16];
+        for (index, here) in there[..self.block.schema.units()].iter_mut().enumerate() {
+            *here = self.is_there(row, index);
+        }
+        there
     }
 }

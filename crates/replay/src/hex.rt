@@ -10,6 +10,7 @@ fn value_of(digit: u8) -> Option<u8>
     match digit {
         b'0'..=b'9' => Some(digit - b'0'),
         b'a'..=b'f' => Some(digit - b'a' + 10),
+        // Stays: nothing is handed on here: any other byte is no digit.
         _ => None,
     }
 }

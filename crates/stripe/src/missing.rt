@@ -2,13 +2,15 @@
 ghost use Rattle.std.specs.Prelude.{◌≡◌, ℕ, ◌+◌, ◌*◌, ◌<◌, ◌≤◌, length, take, slice_index};
 ghost use Rattle.algebra.specs.Matrices.{mixed};
 ghost use Rattle.matrix.specs.Grids.{grid};
-ghost use Rattle.stripe.specs.Coded.{byte_at, units, RowRoom};
+ghost use Rattle.policy.specs.declared.codec.Codec.TheVariants.{Rs as RsCodec, Xor as XorCodec};
+ghost use Rattle.stripe.specs.Coded.{byte_at, coded, units, RowRoom};
 ghost use Rattle.stripe.specs.Recovered.{Filled, MadeAgain, Recovered, DealtCells, RowDetermined};
 ghost use Rattle.stripe.specs.There.{flag, there_below};
 
 use super::fault::StripeFault;
 use super::select::select_rows;
 use super::there::{count_missing, lowest, row_bytes};
+use arrayvec::ArrayVec;
 use codes::{Code, Rs, Xor};
 use field::Field;
 use field::gf2::Gf2;
@@ -48,6 +50,7 @@ struct Chosen<'a> {
 
 impl Chosen<'_> {
     // Each missing data cell becomes what its row of the inverse makes of the chosen cells.
+    // Stays: the row is lent from step to step, and `Chosen`, which is copied, can hold no loan to write.
     fn fill_missing<F: Field>(self, inverse: &[F], row: &mut [u8])
         requires room { RowRoom self.schema row.old }
         requires matrix { self.schema.data_units * self.schema.data_units ≤ length inverse.now }
@@ -93,6 +96,26 @@ impl Chosen<'_> {
         };
         self.fill_missing(&space.inverse, row);
     }
+
+    // The same by the codec of the scheme.
+    // Stays: the working matrices are lent by the one who knows the field, as the project asks. They are made in a function
+    // for each codec, so that a row pays for those of its field alone, and for none where no cell is missing.
+    fn recover_rs(self, row: &mut [u8])
+        requires codec { self.schema.codec ≡ RsCodec }
+        requires room { RowRoom self.schema row.old }
+        ensures { let s = self.entry.schema in MadeAgain s.data_units (units s) s.cell_size (coded RsCodec s.data_units) (flag self.entry.there.now) (byte_at s.cell_size row.old) (byte_at s.cell_size row.new) }
+    {
+        self.recover_by::<Rs>(row, &mut Workspace::of(Gf256 { value: 0 }));
+    }
+
+    // Stays: as `recover_rs` for the other field.
+    fn recover_xor(self, row: &mut [u8])
+        requires codec { self.schema.codec ≡ XorCodec }
+        requires room { RowRoom self.schema row.old }
+        ensures { let s = self.entry.schema in MadeAgain s.data_units (units s) s.cell_size (coded XorCodec s.data_units) (flag self.entry.there.now) (byte_at s.cell_size row.old) (byte_at s.cell_size row.new) }
+    {
+        self.recover_by::<Xor>(row, &mut Workspace::of(Gf2 { bit: false }));
+    }
 }
 
 // Makes the data cells of a row again that are not there, from the lowest that are, and tells how many they were.
@@ -104,8 +127,9 @@ pub fn recover(schema: EcSchema, there: &[bool; 16], row: &mut [u8]) -> Result<u
     if row.len() < row_bytes(schema) {
         return Err(StripeFault::Short);
     }
-    let lowest = lowest(&there[..schema.units()]);
-    let cells = lowest.len();
+    let mut found = ArrayVec::new();
+    lowest(&there[..schema.units()], &mut found);
+    let cells = found.len();
     if cells < schema.data_units {
         return Err(StripeFault::TooFew { cells });
     }
@@ -116,17 +140,16 @@ pub fn recover(schema: EcSchema, there: &[bool; 16], row: &mut [u8]) -> Result<u
     let chosen = Chosen {
         schema,
         there,
-        cells: &lowest[..schema.data_units],
+        cells: &found[..schema.data_units],
     };
-    // Stays: the working matrices are lent by the one who knows the field, as the project asks.
     match schema.codec {
         Codec::RsLegacy => Err(StripeFault::Legacy),
         Codec::Rs => {
-            chosen.recover_by::<Rs>(row, &mut Workspace::of(Gf256 { value: 0 }));
+            chosen.recover_rs(row);
             Ok(made)
         }
         Codec::Xor => {
-            chosen.recover_by::<Xor>(row, &mut Workspace::of(Gf2 { bit: false }));
+            chosen.recover_xor(row);
             Ok(made)
         }
     }

@@ -1,8 +1,8 @@
 // The parity cells of a row.
 ghost use Rattle.std.specs.Prelude.{◌≡◌, ℕ, ◌+◌, ◌*◌, ◌<◌, ◌≤◌, length, slice_index};
 ghost use Rattle.algebra.specs.Matrices.{mixed};
-ghost use Rattle.stripe.specs.Coded.{units};
-ghost use Rattle.stripe.specs.Encoded.{EncodedBy, Encoded, RowFollows, OnlyParity};
+ghost use Rattle.stripe.specs.Coded.{byte_at, units, RowRoom};
+ghost use Rattle.stripe.specs.Encoded.{ParityIs, Encoded, RowFollows, OnlyParity};
 
 use super::fault::StripeFault;
 use super::there::row_bytes;
@@ -22,18 +22,12 @@ fn cell_numbers() -> [usize; 16]
 }
 
 // Makes the parity cells by a code, whose matrix goes into the slice lent for it.
-fn encode_by<C: Code>(
-    schema: EcSchema,
-    row: &mut [u8],
-    generator: &mut [C::F],
-) -> Result<(), StripeFault>
+fn encode_by<C: Code>(schema: EcSchema, row: &mut [u8], generator: &mut [C::F])
     requires code { C.Code.permits schema.data_units schema.parity_units }
+    requires room { RowRoom schema row.old }
     requires space { 256 ≤ length generator.old }
-    ensures { EncodedBy schema (λ r v. mixed C.F.Field.ops schema.data_units (C.Code.generator schema.data_units r) v) row.old row.new result }
+    ensures { ParityIs schema.data_units (units schema) schema.cell_size (λ r v. mixed C.F.Field.ops schema.data_units (C.Code.generator schema.data_units r) v) (byte_at schema.cell_size row.old) (byte_at schema.cell_size row.new) }
 {
-    if row.len() < row_bytes(schema) {
-        return Err(StripeFault::Short);
-    }
     let d = schema.data_units;
     let n = schema.units();
     let s = schema.cell_size;
@@ -51,7 +45,6 @@ fn encode_by<C: Code>(
             unreachable!()
         };
     }
-    Ok(())
 }
 
 // Makes the parity cells of the row whose data cells lie first in the buffer, and puts them after those.
@@ -63,7 +56,14 @@ pub fn encode(schema: EcSchema, row: &mut [u8]) -> Result<(), StripeFault>
     // Stays: the working matrix is lent by the one who knows the field, as the project asks.
     match schema.codec {
         Codec::RsLegacy => Err(StripeFault::Codec),
-        Codec::Rs => encode_by::<Rs>(schema, row, &mut [Gf256 { value: 0 }; 256]),
-        Codec::Xor => encode_by::<Xor>(schema, row, &mut [Gf2 { bit: false }; 256]),
+        _ if row.len() < row_bytes(schema) => Err(StripeFault::Short),
+        Codec::Rs => {
+            encode_by::<Rs>(schema, row, &mut [Gf256 { value: 0 }; 256]);
+            Ok(())
+        }
+        Codec::Xor => {
+            encode_by::<Xor>(schema, row, &mut [Gf2 { bit: false }; 256]);
+            Ok(())
+        }
     }
 }

@@ -1,5 +1,5 @@
 // How large a row is, and which of its cells are there.
-ghost use Rattle.std.specs.Prelude.{◌≡◌, ◌*◌, ◌≤◌, not, length, count_by};
+ghost use Rattle.std.specs.Prelude.{◌≡◌, ◌*◌, ◌≤◌, [], not, length, count_by};
 ghost use Rattle.stripe.specs.Coded.{units};
 ghost use Rattle.stripe.specs.There.{flag, there_below};
 
@@ -20,16 +20,15 @@ pub(crate) fn count_missing(there: &[bool]) -> usize
     there.iter().filter(|&&here| !here).count()
 }
 
-// The cells that are there, the lowest first.
-pub(crate) fn lowest(there: &[bool]) -> ArrayVec<usize, 16>
-    requires { length there.now ≤ 16 }
-    ensures { result.items ≡ there_below (flag there.now) (length there.now) }
+// Lists the cells that are there, the lowest first. The list is lent, since one handed out is copied twice.
+pub(crate) fn lowest(there: &[bool], chosen: &mut ArrayVec<usize, 16>)
+    requires room { length there.now ≤ 16 }
+    requires empty { chosen.old.items ≡ [] }
+    ensures { chosen.new.items ≡ there_below (flag there.now) (length there.now) }
 {
-    let mut chosen = ArrayVec::new();
     for (r, &here) in there.iter().enumerate() {
         if here {
             chosen.push(r);
         }
     }
-    chosen
 }

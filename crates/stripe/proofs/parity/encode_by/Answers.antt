@@ -37,8 +37,6 @@ pub returns : goal.returns
 returns g c =
     let K = g.C.F.Field.ops in
     let d = c.args.schema.data_units in
-    let s = c.args.schema.cell_size in (
-      omega arith,
-      parity_same d c.loop-r.r (units c.args.schema) s (λ r v. mixed K d (grid K.zero d c.matrix.new.out r) v) (λ r v. mixed K d (g.C.Code.generator d r) v) (byte_at s c.args.row.now) (byte_at s c.loop-r.row) (omega arith)
-          (λ r v l. mixed_rows K d (grid K.zero d c.matrix.new.out r) (g.C.Code.generator d r) v (λ j o. c.in-Ok.ensures.2 r j l o)) c.loop-r.invariant,
-    )
+    let s = c.args.schema.cell_size in
+    parity_same d c.loop-r.r (units c.args.schema) s (λ r v. mixed K d (grid K.zero d c.matrix.new.out r) v) (λ r v. mixed K d (g.C.Code.generator d r) v) (byte_at s c.args.row.now) (byte_at s c.loop-r.row) (omega arith)
+    (λ r v l. mixed_rows K d (grid K.zero d c.matrix.new.out r) (g.C.Code.generator d r) v (λ j o. c.in-Ok.ensures.2 r j l o)) c.loop-r.invariant
